@@ -1,0 +1,77 @@
+-- Parts of a stream, one after another, and the totals of the whole.
+use mathlib.Core.Path.{_≡_, refl, ap, sym, _∙_}
+use mathlib.Core.Bool.{Bool, true, false}
+use mathlib.Core.List.{List, [], _∷_, _++_, append-assoc}
+use Prim.Native.Nat.{ℕ, _+_, _≤_}
+use native.Mathlib.Nat.{add-zero, zero-add}
+use native.Mathlib.Omega.{arith}
+use lib.Dec.{eqb}
+use lib.ListN.{length, replicate}
+use Rattle.frame.specs.Pick.{pick}
+use Rattle.frame.specs.Reader.{answers, takenBy}
+use Rattle.frame.specs.Small.{fedOf, fresh, answersOf, readerAfter}
+use Rattle.frame.specs.Capture.{kindNumber, settles, settled, labels, count, partOf, totalsOf}
+use Rattle.frame.specs.CutPromise.{joined, answersInParts, fedInParts, addedUp, CutPromise}
+use Rattle.frame.specs.declared.direction.Direction.{Direction}
+use Rattle.frame.specs.declared.reader.ByteAnswer.{ByteAnswer}
+use Rattle.frame.specs.declared.reader.ByteAnswer.the-variants as answer
+use Rattle.frame.specs.declared.reader.Reader.{Reader}
+use Rattle.frame.specs.declared.stream.Part.{Part}
+use Rattle.frame.specs.declared.capture.Kind.{Kind}
+use Rattle.frame.specs.declared.capture.Kind.the-variants.{Frame, Broken, Noise, Pending}
+use Rattle.frame.proofs.Labels.{count-append, count-replicate}
+use Rattle.frame.proofs.Means.{reader-promise}
+
+answers-append : (r : Reader) (xs ys : List ℕ) → answersOf r (xs ++ ys) ≡ answersOf r xs ++ answersOf (readerAfter r xs) ys
+unfolding answersOf readerAfter
+answers-append r [] ys = refl
+answers-append r (x ∷ xs) ys = ap (λ (l : List ByteAnswer). fedOf r x .answer ∷ l) (answers-append (fedOf r x .reader) xs ys)
+
+reader-append : (r : Reader) (xs ys : List ℕ) → readerAfter r (xs ++ ys) ≡ readerAfter (readerAfter r xs) ys
+unfolding readerAfter
+reader-append r [] ys = refl
+reader-append r (x ∷ xs) ys = reader-append (fedOf r x .reader) xs ys
+
+settled-append : (as′ bs : List ByteAnswer) → settled (as′ ++ bs) ≡ settled as′ ++ settled bs
+unfolding settled
+settled-append [] bs = refl
+settled-append (a ∷ as′) bs = ap (λ (l : List Kind). settles a ++ l) (settled-append as′ bs) ∙ sym (append-assoc (settles a) (settled as′) (settled bs))
+
+part-append : (r : Reader) (xs ys : List ℕ) → partOf r (xs ++ ys) ≡ addedUp (partOf r xs) (partOf (readerAfter r xs) ys)
+part-append r xs ys = simp (reader-append, answers-append, settled-append, count-append)
+
+told : (r : Reader) (parts : List (List ℕ)) → answersInParts r parts ≡ answersOf r (joined parts)
+unfolding answersOf
+told r [] = refl
+told r (p ∷ ps) = ap (λ (l : List ByteAnswer). answersOf r p ++ l) (told (readerAfter r p) ps) ∙ sym (answers-append r p (joined ps))
+
+counted : (r : Reader) (parts : List (List ℕ)) → fedInParts r parts ≡ partOf r (joined parts)
+counted r [] = refl
+counted r (p ∷ ps) = ap (λ (q : Part). addedUp (partOf r p) q) (counted (readerAfter r p) ps) ∙ sym (part-append r p (joined ps))
+
+-- nothing that is settled is pending
+none-pending : (told : List ByteAnswer) → count Pending (settled told) ≡ 0
+unfolding settled count
+none-pending [] = refl
+none-pending (answer.Waiting ∷ rest) = none-pending rest
+none-pending (answer.Noise ∷ rest) = rw (none-pending rest)
+none-pending (answer.Frame n ∷ rest) = rw (count-append Pending (replicate n Frame) (settled rest), count-replicate Pending Frame n, none-pending rest)
+none-pending (answer.Broken n ∷ rest) = rw (count-append Pending (replicate n Broken) (settled rest), count-replicate Pending Broken n, none-pending rest)
+
+-- the labels of a kind: those that the reader settled, and the pending ones
+labels-count : (k : Kind) (dir : Direction) (capture : List ℕ)
+    → count k (labels dir capture) ≡ count k (settled (answersOf (fresh dir) capture)) + pick (eqb (kindNumber k) 3) (readerAfter (fresh dir) capture .place) 0
+unfolding labels
+labels-count k dir capture =
+    count-append k (settled (answers dir [] capture)) (replicate (length (takenBy dir [] capture)) Pending)
+    ∙ rw (count-replicate k Pending (length (takenBy dir [] capture)), reader-promise .told dir capture, reader-promise .stands dir capture)
+
+pub cut-promise : CutPromise
+cut-promise = record {
+  told = told;
+  counted = counted;
+  frame = λ dir capture. sym (labels-count Frame dir capture ∙ add-zero _);
+  broken = λ dir capture. sym (labels-count Broken dir capture ∙ add-zero _);
+  noise = λ dir capture. sym (labels-count Noise dir capture ∙ add-zero _);
+  pending = λ dir capture. sym (labels-count Pending dir capture ∙ rw (none-pending (answersOf (fresh dir) capture)) (zero-add _));
+}

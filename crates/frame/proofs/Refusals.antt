@@ -1,0 +1,38 @@
+-- A refusal leaves the lent bytes as they were, and every field but its number is zero.
+use mathlib.Core.Path.{_≡_, refl, ap, sym, _∙_}
+use mathlib.Core.List.{List}
+use Prim.Native.Nat.{ℕ}
+use Rattle.frame.specs.Letter.{directionOf}
+use Rattle.frame.specs.Capture.{countedBy}
+use Rattle.frame.specs.Raw.{rawSaid, rawLeft}
+use Rattle.frame.specs.Numbers.{writtenNumber, writtenCount, countedNumber, countedTotals, noTotals}
+use Rattle.frame.specs.RefusalPromise.{RefusalPromise}
+use Rattle.frame.specs.declared.direction.Direction.{Direction}
+use Rattle.frame.specs.declared.raw.Written.{Written}
+use Rattle.frame.specs.declared.raw.Written.the-variants as written
+use Rattle.frame.specs.declared.capture.Counted.{Counted}
+use Rattle.frame.specs.declared.capture.Counted.the-variants as counted
+use Rattle.frame.proofs.Placed.{raw-refused}
+
+none : (w : Written) → (writtenNumber w ≡ 0 → ⊥) → writtenCount w ≡ 0
+none (written.Bytes n) refused = absurd (refused refl)
+none (written.Refused n) refused = refl
+
+zeros : (c : Counted) → (countedNumber c ≡ 0 → ⊥) → countedTotals c ≡ noTotals
+zeros (counted.Totals t) refused = absurd (refused refl)
+zeros (counted.Refused n) refused = refl
+
+kept : (dir : Direction) (buf : List ℕ) (at zone command code : ℕ) (body : List ℕ)
+    → (writtenNumber (rawSaid dir buf at body) ≡ 0 → ⊥) → rawLeft dir buf at zone command code body ≡ buf
+kept dir buf at zone command code body refused = go (rawSaid dir buf at body) refl refused
+  where
+    go : (w : Written) → rawSaid dir buf at body ≡ w → (writtenNumber w ≡ 0 → ⊥) → rawLeft dir buf at zone command code body ≡ buf
+    go (written.Bytes n) e r = absurd (r refl)
+    go (written.Refused n) e r = raw-refused dir buf at zone command code body n e
+
+pub refusal-promise : RefusalPromise
+refusal-promise = record {
+  kept = kept;
+  none = λ dir buf at body. none (rawSaid dir buf at body);
+  zero = λ letter capture. zeros (countedBy (directionOf letter) capture);
+}

@@ -1,0 +1,20 @@
+-- What a reader of this crate must believe, in document 01's order; then the promises.
+pub mod Pick
+pub mod Refusal
+pub mod Letter
+pub mod Frame
+pub mod Reader
+pub mod Meaning
+pub mod Small
+pub mod Capture
+pub mod Fields
+pub mod Raw
+pub mod Numbers
+pub mod OneAnswer
+pub mod AnswerPromise
+pub mod ReaderPromise
+pub mod CutPromise
+pub mod CapturePromise
+pub mod FramePromise
+pub mod RefusalPromise
+pub mod Computed

@@ -1,0 +1,46 @@
+-- Document 01, 'The frame and its reader': the house rule, byte by byte.
+-- The definition's reader is the list of the bytes that it has taken of a frame; it is empty outside.
+use Prim.Native.Nat.{ℕ, _+_}
+use mathlib.Core.Bool.{Bool, _||_}
+use mathlib.Core.List.{List, [], _∷_, _++_}
+use lib.Dec.{eqb, leb}
+use lib.ListN.{length}
+use Rattle.frame.specs.Pick.{pick}
+use Rattle.frame.specs.Frame.{header, opens, ends, dl}
+use Rattle.frame.specs.declared.direction.Direction.{Direction}
+use Rattle.frame.specs.declared.reader.ByteAnswer.{ByteAnswer}
+use Rattle.frame.specs.declared.reader.ByteAnswer.the-variants.{Waiting, Noise, Frame, Broken}
+
+-- "A fresh reader stands outside any frame."
+abbrev pub outside : List ℕ → Bool
+outside taken = eqb (length taken) 0
+
+-- "at the end place": all the places before it are filled
+abbrev pub atEnd : Direction → List ℕ → Bool
+atEnd dir taken = leb (header dir + dl dir taken) (length taken)
+
+-- "The answer to each byte is one of: waiting, noise, frame, broken with its length."
+unfoldable pub answerTo : Direction → List ℕ → ℕ → ByteAnswer
+answerTo dir taken b =
+    pick (outside taken)
+    (pick (eqb b opens) Waiting Noise)
+    (pick (atEnd dir taken)
+    (pick (eqb b ends)
+    (Frame (length taken + 1))
+    (pick (eqb b opens) (Broken (length taken)) (Broken (length taken + 1))))
+    Waiting)
+
+-- "outside, 21 opens a frame"; at the end place "it opens the next frame"; "inside, bytes fill the places in order"
+unfoldable pub takenAfter : Direction → List ℕ → ℕ → List ℕ
+takenAfter dir taken b =
+    pick (outside taken || atEnd dir taken) (pick (eqb b opens) (b ∷ []) []) (taken ++ b ∷ [])
+
+-- the answers to the bytes of a stream, one by one
+unfoldable pub answers : Direction → List ℕ → List ℕ → List ByteAnswer
+answers dir taken [] = []
+answers dir taken (b ∷ bs) = answerTo dir taken b ∷ answers dir (takenAfter dir taken b) bs
+
+-- the reader after them
+unfoldable pub takenBy : Direction → List ℕ → List ℕ → List ℕ
+takenBy dir taken [] = taken
+takenBy dir taken (b ∷ bs) = takenBy dir (takenAfter dir taken b) bs

@@ -1,0 +1,48 @@
+-- The reader that the code keeps: the definition's reader without the bytes. It is answered by the same rule
+-- for every value of its fields; a place past the end place counts as the end place.
+use Prim.Native.Nat.{ℕ, _+_}
+use mathlib.Core.List.{List, [], _∷_}
+use lib.Dec.{eqb, ltb}
+use lib.ListN.{length}
+use Rattle.frame.specs.Pick.{pick}
+use Rattle.frame.specs.Frame.{header, opens, ends, dl}
+use Rattle.frame.specs.declared.direction.Direction.{Direction}
+use Rattle.frame.specs.declared.reader.ByteAnswer.{ByteAnswer}
+use Rattle.frame.specs.declared.reader.ByteAnswer.the-variants.{Waiting, Noise, Frame, Broken}
+use Rattle.frame.specs.declared.reader.Reader.{Reader}
+use Rattle.frame.specs.declared.reader.Fed.{Fed}
+
+-- what is kept of the bytes taken: how many they are, and Dl
+abbrev pub kept : Direction → List ℕ → Reader
+kept dir taken = record { direction = dir; place = length taken; count = dl dir taken }
+
+abbrev pub fresh : Direction → Reader
+fresh dir = record { direction = dir; place = 0; count = 0 }
+
+abbrev pub stood : Direction → ℕ → ℕ → ByteAnswer → Fed
+stood dir place count answer = record { reader = record { direction = dir; place = place; count = count }; answer = answer }
+
+-- one byte, over the header's length
+unfoldable pub takenOf : Direction → ℕ → ℕ → ℕ → ℕ → Fed
+takenOf dir head place count b =
+    pick (eqb place 0)
+    (pick (eqb b opens) (stood dir 1 0 Waiting) (stood dir 0 0 Noise))
+    (pick (ltb place head)
+    (pick (eqb (place + 1) head) (stood dir (place + 1) b Waiting) (stood dir (place + 1) 0 Waiting))
+    (pick (ltb place (head + count))
+    (stood dir (place + 1) count Waiting)
+    (pick (eqb b ends)
+    (stood dir 0 0 (Frame (head + count + 1)))
+    (pick (eqb b opens) (stood dir 1 0 (Broken (head + count))) (stood dir 0 0 (Broken (head + count + 1)))))))
+
+abbrev pub fedOf : Reader → ℕ → Fed
+fedOf r b = takenOf (r .direction) (header (r .direction)) (r .place) (r .count) b
+
+-- a part of a stream, from a given reader: the answers, and the reader after them
+unfoldable pub answersOf : Reader → List ℕ → List ByteAnswer
+answersOf r [] = []
+answersOf r (b ∷ bs) = fedOf r b .answer ∷ answersOf (fedOf r b .reader) bs
+
+unfoldable pub readerAfter : Reader → List ℕ → Reader
+readerAfter r [] = r
+readerAfter r (b ∷ bs) = readerAfter (fedOf r b .reader) bs
