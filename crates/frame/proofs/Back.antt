@@ -2,19 +2,18 @@
 use mathlib.Core.Path.{_≡_, refl, ap, sym, _∙_, subst}
 use mathlib.Core.Bool.{Bool, true, false, _||_}
 use mathlib.Core.List.{List, [], _∷_, _++_, append-assoc}
-use Prim.Native.Nat.{ℕ, zero, suc, _+_, _-_, _≤_, _<_}
+use Prim.Native.Nat.{ℕ, _+_, _-_, _≤_, _<_}
 use native.Mathlib.Nat.{add-zero}
 use native.Mathlib.Omega.{arith}
-use borrow.Author.Tests.{le-leb, eqb-true, leb-true, leb-false, ltb-true, ltb-false}
+use borrow.Author.Tests.{le-leb, eqb-true, leb-true, leb-false, ltb-false}
 use lib.Dec.{eqb, ltb, leb}
-use lib.ListN.{length, take, drop, getD, replicate, length-append, length-drop, length-take, drop-of-length-le, List·getD-append}
-use lib.Seq.{drop-at, drop-cons, getD-take, getD-drop, length-take-le}
+use lib.ListN.{length, take, drop, getD, replicate, length-drop}
+use lib.Seq.{drop-at, getD-take, getD-drop, length-take-le}
 use Rattle.frame.specs.Pick.{pick}
-use Rattle.frame.specs.Refusal.{ruled}
-use Rattle.frame.specs.Frame.{opens, ends, dataLimit, header, headerOf, frameLength, frameOf, dl}
-use Rattle.frame.specs.Reader.{answerTo, takenAfter, answers, takenBy}
+use Rattle.frame.specs.Frame.{opens, ends, dataLimit, header, frameLength, frameOf, dl}
+use Rattle.frame.specs.Reader.{takenAfter, answers, takenBy}
 use Rattle.frame.specs.Capture.{kindNumber, event, eventsFrom, firstOf}
-use Rattle.frame.specs.Fields.{isFrame, answerKept, fieldsIn, dataIn, fieldsOf, dataOf, bytesAt, lastOf}
+use Rattle.frame.specs.Fields.{isFrame, bytesAt, lastOf}
 use Rattle.frame.specs.Raw.{rawSaid, rawLeft}
 use Rattle.frame.specs.FramePromise.{Brings, Again, FramePromise}
 use Rattle.frame.specs.Computed.{stretchAt}
@@ -25,17 +24,15 @@ use Rattle.frame.specs.declared.reader.ByteAnswer.the-variants as answer
 use Rattle.frame.specs.declared.capture.Kind.{Kind}
 use Rattle.frame.specs.declared.capture.Kind.the-variants as kind
 use Rattle.frame.specs.declared.capture.Event.{Event}
-use Rattle.frame.specs.declared.capture.Next.{Next}
 use Rattle.frame.specs.declared.capture.Next.the-variants as next
-use Rattle.frame.specs.declared.raw.Written.{Written}
 use Rattle.frame.specs.declared.raw.Written.the-variants as written
 use Rattle.frame.proofs.Cases.{cases}
-use Rattle.frame.proofs.Header.{header-least, header-length, frame-length}
+use Rattle.frame.proofs.Header.{header-least}
 use Rattle.frame.proofs.Taken.{fills, taken-outside, taken-end}
 use Rattle.frame.proofs.Events.{eventsOn, events-open, events-fill, events-frame, events-here, events-end}
 use Rattle.frame.proofs.Whole.{Whole, whole-is}
 use Rattle.frame.proofs.Placed.{raw-left, raw-placed}
-use Rattle.frame.proofs.Again.{written-count, frame-is, frame-fields, frame-data, frame-again}
+use Rattle.frame.proofs.Again.{frame-is, frame-fields, frame-data, frame-again}
 use Rattle.frame.proofs.Live.{live-frame}
 
 -- all of a frame but its first byte and its last

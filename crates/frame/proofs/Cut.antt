@@ -1,16 +1,14 @@
 -- Parts of a stream, one after another, and the totals of the whole.
 use mathlib.Core.Path.{_≡_, refl, ap, sym, _∙_}
-use mathlib.Core.Bool.{Bool, true, false}
 use mathlib.Core.List.{List, [], _∷_, _++_, append-assoc}
-use Prim.Native.Nat.{ℕ, _+_, _≤_}
+use Prim.Native.Nat.{ℕ, _+_}
 use native.Mathlib.Nat.{add-zero, zero-add}
-use native.Mathlib.Omega.{arith}
 use lib.Dec.{eqb}
 use lib.ListN.{length, replicate}
 use Rattle.frame.specs.Pick.{pick}
 use Rattle.frame.specs.Reader.{answers, takenBy}
 use Rattle.frame.specs.Small.{fedOf, fresh, answersOf, readerAfter}
-use Rattle.frame.specs.Capture.{kindNumber, settles, settled, labels, count, partOf, totalsOf}
+use Rattle.frame.specs.Capture.{kindNumber, settles, settled, labels, count, partOf}
 use Rattle.frame.specs.CutPromise.{joined, answersInParts, fedInParts, addedUp, CutPromise}
 use Rattle.frame.specs.declared.direction.Direction.{Direction}
 use Rattle.frame.specs.declared.reader.ByteAnswer.{ByteAnswer}

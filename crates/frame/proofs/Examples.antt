@@ -1,19 +1,17 @@
 -- Worked examples, computed from the definitions, and witnesses that the promises' premises can be met.
 use mathlib.Core.Path.{_≡_, refl}
-use mathlib.Core.List.{List, [], _∷_, _++_}
+use mathlib.Core.List.{List, [], _∷_}
 use Prim.Native.Nat.{ℕ}
 use lib.ListN.{replicate}
-use Rattle.frame.specs.Pick.{pick}
 use Rattle.frame.specs.Frame.{frameOf}
 use Rattle.frame.specs.Reader.{answerTo, takenAfter, answers, takenBy}
 use Rattle.frame.specs.Small.{takenOf, answersOf, fresh}
-use Rattle.frame.specs.Capture.{settled, labels, count, totalsOf, event, eventsTold, eventsFrom, firstOf, countedOf}
+use Rattle.frame.specs.Capture.{settled, labels, count, event, eventsTold, eventsFrom, countedOf}
 use Rattle.frame.specs.Fields.{isFrame, fieldsOf, dataOf}
 use Rattle.frame.specs.Raw.{rawSaid, rawLeft}
 use Rattle.frame.specs.declared.direction.Direction.the-variants.{Command, Answer}
 use Rattle.frame.specs.declared.reader.ByteAnswer.the-variants as answer
 use Rattle.frame.specs.declared.capture.Kind.the-variants.{Frame, Broken, Noise, Pending}
-use Rattle.frame.specs.declared.capture.Next.the-variants as next
 use Rattle.frame.specs.declared.capture.Counted.the-variants as counted
 use Rattle.frame.specs.declared.fields.Opened.the-variants as found
 use Rattle.frame.specs.declared.raw.Written.the-variants as written

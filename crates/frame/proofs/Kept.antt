@@ -1,20 +1,19 @@
 -- The reader that the code keeps follows the definition's reader.
-use mathlib.Core.Path.{_≡_, refl, ap, sym, _∙_, subst}
+use mathlib.Core.Path.{_≡_, refl, ap, _∙_}
 use mathlib.Core.Bool.{Bool, true, false}
 use mathlib.Core.List.{List, [], _∷_, _++_}
-use Prim.Native.Nat.{ℕ, zero, suc, _+_, _-_, _≤_, _<_}
+use Prim.Native.Nat.{ℕ, _+_, _-_, _≤_, _<_}
 use native.Mathlib.Omega.{arith}
-use borrow.Author.Tests.{eq-eqb, ne-eqb, lt-ltb, le-ltb, le-leb, lt-leb, eqb-true, eqb-false, ltb-true, ltb-false}
-use lib.Dec.{eqb, ltb, leb}
-use lib.ListN.{length, getD, length-append}
+use borrow.Author.Tests.{eq-eqb, ne-eqb, lt-ltb, le-ltb, eqb-true, eqb-false, ltb-true, ltb-false}
+use lib.Dec.{eqb, ltb}
+use lib.ListN.{length, length-append}
 use Rattle.frame.specs.Pick.{pick}
 use Rattle.frame.specs.Frame.{header, opens, ends, dl}
-use Rattle.frame.specs.Reader.{outside, atEnd, answerTo, takenAfter, answers, takenBy}
-use Rattle.frame.specs.Small.{kept, fresh, stood, takenOf, fedOf, answersOf, readerAfter}
+use Rattle.frame.specs.Reader.{answerTo, takenAfter, answers, takenBy}
+use Rattle.frame.specs.Small.{kept, stood, takenOf, fedOf, answersOf, readerAfter}
 use Rattle.frame.specs.declared.direction.Direction.{Direction}
 use Rattle.frame.specs.declared.reader.ByteAnswer.{ByteAnswer}
 use Rattle.frame.specs.declared.reader.ByteAnswer.the-variants.{Waiting, Noise, Frame, Broken}
-use Rattle.frame.specs.declared.reader.Reader.{Reader}
 use Rattle.frame.specs.declared.reader.Fed.{Fed}
 use Rattle.frame.proofs.Header.{header-least}
 use Rattle.frame.proofs.Taken.{Stands, dl-none, dl-more, dl-now, taken-outside, taken-inside, taken-end, stands-after}

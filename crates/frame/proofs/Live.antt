@@ -2,21 +2,20 @@
 use mathlib.Core.Path.{_≡_, refl, ap, sym, _∙_, subst}
 use mathlib.Core.Bool.{Bool, true, false}
 use mathlib.Core.List.{List, [], _∷_, _++_, append-assoc}
-use Prim.Native.Nat.{ℕ, zero, suc, _+_, _-_, _≤_, _<_}
+use Prim.Native.Nat.{ℕ, _+_, _-_, _<_}
 use native.Mathlib.Omega.{arith}
 use borrow.Author.Tests.{eqb-true, eqb-false, ltb-true, ltb-false, le-leb}
 use lib.Dec.{eqb, ltb}
 use lib.ListN.{length, drop, getD, length-append, List·getD-append}
 use lib.Seq.{drop-at, getD-at}
 use Rattle.frame.specs.Pick.{pick}
-use Rattle.frame.specs.Frame.{header, opens, ends, dl, frameLength}
+use Rattle.frame.specs.Frame.{header, opens, ends, dl}
 use Rattle.frame.specs.Reader.{answerTo, takenAfter, takenBy}
 use Rattle.frame.specs.Meaning.{Means}
 use Rattle.frame.specs.Fields.{isFrame, lastOf}
 use Rattle.frame.specs.declared.direction.Direction.{Direction}
 use Rattle.frame.specs.declared.reader.ByteAnswer.{ByteAnswer}
 use Rattle.frame.specs.declared.reader.ByteAnswer.the-variants as answer
-use Rattle.frame.proofs.Header.{header-least}
 use Rattle.frame.proofs.Taken.{Stands, dl-more, taken-outside, taken-inside, taken-end, stands-by}
 use Rattle.frame.proofs.Means.{means}
 use Rattle.frame.proofs.Whole.{Whole, whole-is}

@@ -1,14 +1,13 @@
 -- The answer to a byte is the one whose meaning holds.
-use mathlib.Core.Path.{_≡_, refl, ap, sym, _∙_, subst}
+use mathlib.Core.Path.{_≡_, refl, sym, _∙_, subst}
 use mathlib.Core.Bool.{Bool, true, false}
 use mathlib.Core.List.{List, []}
 use mathlib.Core.Logic.{_⊎_, inl, inr}
-use Prim.Native.Nat.{ℕ, _+_, _≤_, _<_}
+use Prim.Native.Nat.{ℕ, _+_}
 use native.Mathlib.Omega.{arith}
 use borrow.Author.Tests.{eq-eqb, ne-eqb, eqb-true, eqb-false, ltb-true, ltb-false}
 use lib.Dec.{eqb, ltb}
 use lib.ListN.{length}
-use Rattle.frame.specs.Pick.{pick}
 use Rattle.frame.specs.Frame.{header, opens, ends, dl}
 use Rattle.frame.specs.Reader.{answerTo}
 use Rattle.frame.specs.Meaning.{Outside, Inside, AtEndPlace, Means}
@@ -17,7 +16,6 @@ use Rattle.frame.specs.ReaderPromise.{ReaderPromise}
 use Rattle.frame.specs.declared.direction.Direction.{Direction}
 use Rattle.frame.specs.declared.reader.ByteAnswer.{ByteAnswer}
 use Rattle.frame.specs.declared.reader.ByteAnswer.the-variants.{Waiting, Noise, Frame, Broken}
-use Rattle.frame.proofs.Header.{header-least}
 use Rattle.frame.proofs.Cases.{cases}
 use Rattle.frame.proofs.Taken.{taken-outside, taken-inside, taken-end}
 use Rattle.frame.proofs.Kept.{follows-all}

@@ -1,28 +1,24 @@
 -- A part of a stream: what one byte adds to it, and the whole.
-use mathlib.Core.Path.{_≡_, refl, ap, sym, _∙_, subst}
-use mathlib.Core.Bool.{Bool, true, false}
-use mathlib.Core.List.{List, [], _∷_, _++_}
-use Prim.Native.Nat.{ℕ, zero, suc, _+_, _≤_, _<_}
+use mathlib.Core.Path.{_≡_, _∙_}
+use mathlib.Core.List.{List, [], _∷_}
+use Prim.Native.Nat.{ℕ, _+_, _≤_, _<_}
 use native.Mathlib.Nat.{add-zero, add-assoc}
 use native.Mathlib.Numerals.{add-one}
 use native.Mathlib.Omega.{arith}
 use borrow.Author.Tests.{ltb-false}
 use lib.Dec.{eqb, ltb}
-use lib.ListN.{length, replicate, drop, getD, length-replicate, drop-of-length-le}
+use lib.ListN.{length, drop, getD, length-replicate, drop-of-length-le}
 use lib.Seq.{drop-cons}
-use Rattle.frame.specs.Pick.{pick}
 use Rattle.frame.specs.Frame.{header, opens, ends}
 use Rattle.frame.specs.Small.{takenOf, fedOf, answersOf, readerAfter}
-use Rattle.frame.specs.Capture.{count, settles, settled, partOf}
+use Rattle.frame.specs.Capture.{count, settles, settled}
 use Rattle.frame.specs.Computed.{withFed}
 use Rattle.frame.specs.declared.direction.Direction.{Direction}
-use Rattle.frame.specs.declared.reader.ByteAnswer.{ByteAnswer}
 use Rattle.frame.specs.declared.reader.ByteAnswer.the-variants as answer
 use Rattle.frame.specs.declared.reader.Reader.{Reader}
 use Rattle.frame.specs.declared.reader.Fed.{Fed}
 use Rattle.frame.specs.declared.stream.Part.{Part}
-use Rattle.frame.specs.declared.capture.Kind.{Kind}
-use Rattle.frame.specs.declared.capture.Kind.the-variants.{Frame, Broken, Noise, Pending}
+use Rattle.frame.specs.declared.capture.Kind.the-variants.{Frame, Broken, Noise}
 use Rattle.frame.proofs.Cases.{cases}
 use Rattle.frame.proofs.Labels.{count-append, count-all}
 

@@ -1,5 +1,5 @@
 -- A refusal leaves the lent bytes as they were, and every field but its number is zero.
-use mathlib.Core.Path.{_≡_, refl, ap, sym, _∙_}
+use mathlib.Core.Path.{_≡_, refl}
 use mathlib.Core.List.{List}
 use Prim.Native.Nat.{ℕ}
 use Rattle.frame.specs.Letter.{directionOf}

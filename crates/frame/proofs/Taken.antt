@@ -2,15 +2,15 @@
 use mathlib.Core.Path.{_≡_, refl, ap, sym, _∙_, subst}
 use mathlib.Core.Bool.{Bool, true, false}
 use mathlib.Core.List.{List, [], _∷_, _++_, append-assoc, append-nil}
-use Prim.Native.Nat.{ℕ, zero, suc, _+_, _-_, _≤_, _<_}
+use Prim.Native.Nat.{ℕ, suc, _+_, _-_, _≤_, _<_}
 use native.Mathlib.Omega.{arith}
 use borrow.Author.Tests.{eq-eqb, ne-eqb, le-leb, lt-leb, leb-true, leb-false, eqb-true, eqb-false, ltb-true, ltb-false}
 use lib.Dec.{eqb, leb, ltb}
-use lib.ListN.{length, getD, replicate, length-append, List·getD-eq-default, List·getD-append}
+use lib.ListN.{length, replicate, length-append, List·getD-eq-default, List·getD-append}
 use lib.Seq.{getD-at}
 use Rattle.frame.specs.Pick.{pick}
 use Rattle.frame.specs.Frame.{header, opens, ends, dl}
-use Rattle.frame.specs.Reader.{outside, atEnd, answerTo, takenAfter, answers, takenBy}
+use Rattle.frame.specs.Reader.{atEnd, answerTo, takenAfter, answers, takenBy}
 use Rattle.frame.specs.declared.direction.Direction.{Direction}
 use Rattle.frame.specs.declared.reader.ByteAnswer.{ByteAnswer}
 use Rattle.frame.specs.declared.reader.ByteAnswer.the-variants.{Waiting, Noise, Frame, Broken}

@@ -7,19 +7,16 @@ use native.Mathlib.Omega.{arith}
 use borrow.Author.Tests.{ne-eqb, eqb-true, eqb-false, ltb-true, ltb-false, leb-true, leb-false}
 use lib.Dec.{eqb, ltb, leb}
 use lib.ListN.{length, replicate, length-append, length-replicate}
-use Rattle.frame.specs.Pick.{pick}
 use Rattle.frame.specs.Frame.{header, opens, ends, dl}
 use Rattle.frame.specs.Reader.{answerTo, takenAfter, answers, takenBy}
-use Rattle.frame.specs.Capture.{settles, labels, totalsOf, pendingEvent, eventsTold, eventsFrom, firstOf, spread}
+use Rattle.frame.specs.Capture.{settles, labels, pendingEvent, eventsTold, eventsFrom, firstOf, spread}
 use Rattle.frame.specs.CapturePromise.{Tiles, Walk, CapturePromise}
 use Rattle.frame.specs.Computed.{stretchAt}
 use Rattle.frame.specs.declared.direction.Direction.{Direction}
 use Rattle.frame.specs.declared.reader.ByteAnswer.{ByteAnswer}
 use Rattle.frame.specs.declared.reader.ByteAnswer.the-variants as answer
-use Rattle.frame.specs.declared.capture.Kind.{Kind}
-use Rattle.frame.specs.declared.capture.Kind.the-variants.{Frame, Broken, Noise, Pending}
+use Rattle.frame.specs.declared.capture.Kind.the-variants.{Frame, Broken, Noise}
 use Rattle.frame.specs.declared.capture.Event.{Event}
-use Rattle.frame.specs.declared.capture.Next.{Next}
 use Rattle.frame.proofs.Labels.{count-all}
 use Rattle.frame.proofs.Taken.{taken-outside, taken-inside, taken-end}
 use Rattle.frame.proofs.Events.{eventsOn, events-byte, events-end, events-here}

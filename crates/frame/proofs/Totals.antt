@@ -1,13 +1,13 @@
 -- The totals: counting labels is adding up events.
-use mathlib.Core.Path.{_≡_, refl, ap, sym, _∙_, subst}
+use mathlib.Core.Path.{_≡_, refl, ap, sym, _∙_}
 use mathlib.Core.List.{List, [], _∷_, _++_, append-assoc, append-nil}
 use Prim.Native.Nat.{ℕ, zero, suc, _+_, _≤_, _<_}
 use native.Mathlib.Nat.{add-zero, zero-add, add-assoc}
 use native.Mathlib.Omega.{arith}
-use lib.ListN.{length, drop, replicate}
+use lib.ListN.{length, replicate}
 use Rattle.frame.specs.Frame.{header}
 use Rattle.frame.specs.Reader.{answers, takenBy}
-use Rattle.frame.specs.Capture.{settles, settled, labels, count, totalsOf, event, eventsTold, eventsFrom, spread}
+use Rattle.frame.specs.Capture.{settled, labels, count, totalsOf, eventsTold, eventsFrom, spread}
 use Rattle.frame.specs.Computed.{stretchAt, withEvent}
 use Rattle.frame.specs.declared.direction.Direction.{Direction}
 use Rattle.frame.specs.declared.reader.ByteAnswer.{ByteAnswer}

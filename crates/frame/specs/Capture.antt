@@ -1,13 +1,11 @@
 -- Document 01, 'The frame and its reader': "In a capture of at most 60,000 bytes, every byte belongs to exactly one of
 -- frame, broken, noise, pending; the four totals are those of this rule."
 use Prim.Native.Nat.{ℕ, zero, suc, _+_}
-use mathlib.Core.Bool.{Bool}
 use mathlib.Core.List.{List, [], _∷_, _++_}
 use lib.Dec.{eqb, ltb}
 use lib.ListN.{length, drop, replicate}
 use Rattle.frame.specs.Pick.{pick}
 use Rattle.frame.specs.Refusal.{line, ruled}
-use Rattle.frame.specs.Letter.{directionOf}
 use Rattle.frame.specs.Reader.{answers, takenBy}
 use Rattle.frame.specs.Small.{answersOf, readerAfter}
 use Rattle.frame.specs.declared.direction.Direction.{Direction}

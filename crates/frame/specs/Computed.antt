@@ -1,13 +1,11 @@
 -- What the private functions compute. Nothing here need be believed: proofs/ ties each form to the definitions.
 use Prim.Native.Nat.{ℕ, _+_, _-_}
-use mathlib.Core.List.{List, [], _∷_}
-use lib.Dec.{eqb, ltb, leb}
+use mathlib.Core.List.{List}
+use lib.Dec.{eqb, leb}
 use lib.ListN.{length, getD}
 use Rattle.frame.specs.Pick.{pick}
 use Rattle.frame.specs.Frame.{opens, ends}
-use Rattle.frame.specs.Small.{fedOf}
 use Rattle.frame.specs.Capture.{count, settles, event}
-use Rattle.frame.specs.declared.reader.Reader.{Reader}
 use Rattle.frame.specs.declared.reader.Fed.{Fed}
 use Rattle.frame.specs.declared.stream.Part.{Part}
 use Rattle.frame.specs.declared.capture.Kind.{Kind}

@@ -3,7 +3,7 @@
 use mathlib.Core.Path.{_≡_}
 use mathlib.Core.List.{List, [], _∷_, _++_}
 use Prim.Native.Nat.{ℕ, _+_}
-use Rattle.frame.specs.Small.{fresh, answersOf, readerAfter}
+use Rattle.frame.specs.Small.{fresh, answersOf}
 use Rattle.frame.specs.Capture.{partOf, totalsOf}
 use Rattle.frame.specs.declared.direction.Direction.{Direction}
 use Rattle.frame.specs.declared.reader.ByteAnswer.{ByteAnswer}

@@ -1,54 +1,41 @@
+-- `frame::capture::add_event` meets its contract.
 use borrow.Author.Needs.{needs}
 use Rattle.frame.proofs.capture.add_event.Statement.{statement}
 use Rattle.frame.proofs.capture.add_event.Tie as tie
-use Rattle.frame.proofs.capture.add_event.Reads as reads
-use Rattle.frame.proofs.capture.add_event.Lts as lts
 
--- src/capture.rt:109:13
 enum-told : tie.Need-enum-told
 enum-told c = search needs
 
--- src/capture.rt:109:13
 add-sum : tie.Need-add-sum
 add-sum c = search needs
 
--- src/capture.rt:112:13
 enum-told-2 : tie.Need-enum-told-2
 enum-told-2 c = search needs
 
--- src/capture.rt:112:13
 add-sum-2 : tie.Need-add-sum-2
 add-sum-2 c = search needs
 
--- src/capture.rt:115:13
 enum-told-3 : tie.Need-enum-told-3
 enum-told-3 c = search needs
 
--- src/capture.rt:115:13
 add-sum-3 : tie.Need-add-sum-3
 add-sum-3 c = search needs
 
--- src/capture.rt:118:13
 enum-told-4 : tie.Need-enum-told-4
 enum-told-4 c = search needs
 
--- src/capture.rt:118:13
 add-sum-4 : tie.Need-add-sum-4
 add-sum-4 c = search needs
 
--- src/capture.rt:102:1
 returns : tie.Need-returns
 returns c = rw (c .before .enum-told .given .1)
 
--- src/capture.rt:102:1
 returns-2 : tie.Need-returns-2
 returns-2 c = rw (c .before .enum-told2 .given .1)
 
--- src/capture.rt:102:1
 returns-3 : tie.Need-returns-3
 returns-3 c = rw (c .before .enum-told3 .given .1)
 
--- src/capture.rt:102:1
 returns-4 : tie.Need-returns-4
 returns-4 c = rw (c .before .enum-told4 .given .1)
 

@@ -1,22 +1,17 @@
+-- `frame::capture::capture_totals` meets its contract.
 use borrow.Author.Tests.{lt-ltb, le-ltb}
 use lib.ListN.{length}
 use Rattle.frame.specs.Capture.{captureLimit}
 use borrow.Author.Needs.{needs}
 use Rattle.frame.proofs.capture.capture_totals.Statement.{statement}
 use Rattle.frame.proofs.capture.capture_totals.Tie as tie
-use Rattle.frame.proofs.capture.capture_totals.Reads as reads
-use Rattle.frame.proofs.capture.capture_totals.Lts as lts
-use Rattle.frame.proofs.capture.count_events.Reads as count-events-reads
 
--- src/capture.rt:64:9
 returns : tie.Need-returns
 returns c = search (needs, lt-ltb)
 
--- src/capture.rt:66:21
 count-events-requires : tie.Need-count-events-requires
 count-events-requires c κs = search needs
 
--- src/capture.rt:60:1
 returns-2 : tie.Need-returns-2
 returns-2 c = rw (c .count-events .ensures, le-ltb captureLimit (length (c .before .before .before .args .capture .now)) (search needs))
 

@@ -1,33 +1,25 @@
+-- `frame::capture::next_event` meets its contract.
 use native.Mathlib.Omega.{arith}
 use Rattle.frame.proofs.Header.{header-most, header-least}
 use Rattle.frame.proofs.Events.{events-end, events-here}
 use borrow.Author.Needs.{needs}
 use Rattle.frame.proofs.capture.next_event.Statement.{statement}
 use Rattle.frame.proofs.capture.next_event.Tie as tie
-use Rattle.frame.proofs.capture.next_event.Reads as reads
-use Rattle.frame.proofs.capture.next_event.Lts as lts
-use Rattle.frame.proofs.capture.stretch.Reads as stretch-reads
-use Rattle.frame.proofs.reader.Reader.header.Reads as header-reads
 
--- src/capture.rt:54:9
 returns : tie.Need-returns
 returns c = rw (events-end (c .before .before .args .direction) (c .before .before .args .capture .now) (c .before .before .args .at) (search needs))
 
--- src/capture.rt:56:25
 header-requires : tie.Need-header-requires
 header-requires c κs = search needs
 
--- src/capture.rt:56:25
 cast-stretch : tie.Need-cast-stretch
 cast-stretch c = search needs
 
--- src/capture.rt:56:17
 stretch-requires : tie.Need-stretch-requires
 stretch-requires c κs =
     let dir = c .before .before .before .args .direction in
     rw (c .header .ensures) (omega (arith, header-least dir), header-most dir, search needs)
 
--- src/capture.rt:50:1
 returns-2 : tie.Need-returns-2
 returns-2 c =
     let g = c .before .before .before .before .args in

@@ -1,3 +1,4 @@
+-- `frame::capture::stretch` meets its contract.
 use Prim.Native.Nat.{_+_, _-_, _≤_}
 use native.Mathlib.Omega.{arith}
 use lib.ListN.{length, getD}
@@ -6,32 +7,23 @@ use Rattle.frame.specs.Computed.{stretchAt}
 use borrow.Author.Needs.{needs}
 use Rattle.frame.proofs.capture.stretch.Statement.{statement}
 use Rattle.frame.proofs.capture.stretch.Tie as tie
-use Rattle.frame.proofs.capture.stretch.Reads as reads
-use Rattle.frame.proofs.capture.stretch.Lts as lts
-use Rattle.frame.proofs.capture.found.Reads as found-reads
 
--- src/capture.rt:130:8
 shared-slice-read-if1 : tie.Need-shared-slice-read-if1
 shared-slice-read-if1 c = search needs
 
--- src/capture.rt:131:9
 found-requires : tie.Need-found-requires
 found-requires c κs = search needs
 
--- src/capture.rt:131:9
 returns : tie.Need-returns
 unfolding stretchAt
 returns c = search (needs, eq-eqb, ne-eqb, le-leb, lt-leb, lt-ltb, le-ltb)
 
--- src/capture.rt:133:16
 sub-left : tie.Need-sub-left
 sub-left c = search needs
 
--- src/capture.rt:135:9
 found-requires-2 : tie.Need-found-requires-2
 found-requires-2 c κs = search needs
 
--- src/capture.rt:135:9
 returns-2 : tie.Need-returns-2
 unfolding stretchAt
 returns-2 c =
@@ -39,78 +31,61 @@ returns-2 c =
     let short : length (g .capture .now) - g .at ≤ g .header + getD (g .capture .now) (g .at + (g .header - 1)) 0 = omega arith in
     search (needs, eq-eqb, ne-eqb, le-leb, lt-leb, lt-ltb, le-ltb)
 
--- src/capture.rt:137:38
 sub-end : tie.Need-sub-end
 sub-end c = search needs
 
--- src/capture.rt:137:32
 add-end : tie.Need-add-end
 add-end c = search needs
 
--- src/capture.rt:137:24
 shared-slice-read-end : tie.Need-shared-slice-read-end
 shared-slice-read-end c = search needs
 
--- src/capture.rt:137:24
 cast-end : tie.Need-cast-end
 cast-end c =
     let g = c .before .before .before .before .before .args in
     omega (arith, c .shared-slice-known3 .given (g .at + (g .header - 1)))
 
--- src/capture.rt:137:15
 add-end-2 : tie.Need-add-end-2
 add-end-2 c =
     let g = c .before .before .before .before .before .args in
     omega (arith, c .shared-slice-known3 .given (g .at + (g .header - 1)))
 
--- src/capture.rt:139:9
 found-requires-3 : tie.Need-found-requires-3
 found-requires-3 c κs = search needs
 
--- src/capture.rt:139:9
 returns-3 : tie.Need-returns-3
 unfolding stretchAt
 returns-3 c = search (needs, eq-eqb, ne-eqb, le-leb, lt-leb, lt-ltb, le-ltb)
 
--- src/capture.rt:141:24
 add-last : tie.Need-add-last
 add-last c = search needs
 
--- src/capture.rt:141:16
 shared-slice-read-last : tie.Need-shared-slice-read-last
 shared-slice-read-last c = search needs
 
--- src/capture.rt:143:26
 add-found : tie.Need-add-found
 add-found c = search needs
 
--- src/capture.rt:143:9
 found-requires-4 : tie.Need-found-requires-4
 found-requires-4 c κs = search needs
 
--- src/capture.rt:143:9
 returns-4 : tie.Need-returns-4
 unfolding stretchAt
 returns-4 c = search (needs, eq-eqb, ne-eqb, le-leb, lt-leb, lt-ltb, le-ltb)
 
--- src/capture.rt:146:9
 found-requires-5 : tie.Need-found-requires-5
 found-requires-5 c κs = search needs
 
--- src/capture.rt:146:9
 returns-5 : tie.Need-returns-5
 unfolding stretchAt
 returns-5 c = search (needs, eq-eqb, ne-eqb, le-leb, lt-leb, lt-ltb, le-ltb)
 
--- src/capture.rt:148:15
 add-found-2 : tie.Need-add-found-2
 add-found-2 c = search needs
 
--- src/capture.rt:148:5
 found-requires-6 : tie.Need-found-requires-6
 found-requires-6 c κs = search needs
 
--- src/capture.rt:126:1
 returns-6 : tie.Need-returns-6
 unfolding stretchAt
 returns-6 c = search (needs, eq-eqb, ne-eqb, le-leb, lt-leb, lt-ltb, le-ltb)

@@ -1,22 +1,18 @@
+-- `frame::direction::direction_of` meets its contract.
 use borrow.Author.Tests.{eq-eqb, ne-eqb, le-leb, lt-leb, lt-ltb, le-ltb}
 use Rattle.frame.specs.Letter.{directionOf}
 use borrow.Author.Needs.{needs}
 use Rattle.frame.proofs.direction.direction_of.Statement.{statement}
 use Rattle.frame.proofs.direction.direction_of.Tie as tie
-use Rattle.frame.proofs.direction.direction_of.Reads as reads
-use Rattle.frame.proofs.direction.direction_of.Lts as lts
 
--- src/direction.rt:21:9
 returns : tie.Need-returns
 unfolding directionOf
 returns c = search (needs, eq-eqb, ne-eqb, le-leb, lt-leb, lt-ltb, le-ltb)
 
--- src/direction.rt:24:9
 returns-2 : tie.Need-returns-2
 unfolding directionOf
 returns-2 c = search (needs, eq-eqb, ne-eqb, le-leb, lt-leb, lt-ltb, le-ltb)
 
--- src/direction.rt:17:1
 returns-3 : tie.Need-returns-3
 unfolding directionOf
 returns-3 c = search (needs, eq-eqb, ne-eqb, le-leb, lt-leb, lt-ltb, le-ltb)

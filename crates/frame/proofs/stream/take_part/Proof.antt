@@ -1,4 +1,5 @@
-use mathlib.Core.Path.{_≡_, refl, sym, _∙_}
+-- `frame::stream::take_part` meets its contract.
+use mathlib.Core.Path.{_≡_, sym, _∙_}
 use Prim.Native.Nat.{_+_, _-_, _≤_}
 use native.Mathlib.Nat.{zero-add}
 use native.Mathlib.Omega.{arith}
@@ -7,9 +8,6 @@ use lib.ListN.{length, drop, getD}
 use Rattle.frame.proofs.Parts.{partFrom, part-more, part-end, part-adds, held, held-more}
 use Rattle.frame.proofs.stream.take_part.Statement.{statement}
 use Rattle.frame.proofs.stream.take_part.Tie as tie
-use Rattle.frame.proofs.stream.take_part.Reads as reads
-use Rattle.frame.proofs.stream.take_part.Lts as lts
-use Rattle.frame.proofs.stream.with_byte.Reads as with-byte-reads
 
 abbrev Inv-loop : tie.InvT-loop
 Inv-loop bytes part₀ i₀ part i =
@@ -18,27 +16,21 @@ Inv-loop bytes part₀ i₀ part i =
 abbrev μ-loop : tie.MeasureT-loop
 μ-loop bytes part₀ i₀ part i = length bytes - i
 
--- src/stream.rt:30:5
 loop-holds : tie.Need-loop-holds Inv-loop μ-loop
 loop-holds c = search needs
 
--- src/stream.rt:31:32
 shared-slice-read-with-byte : tie.Need-shared-slice-read-with-byte Inv-loop μ-loop
 shared-slice-read-with-byte c = search needs
 
--- src/stream.rt:31:9
 with-byte-requires : tie.Need-with-byte-requires Inv-loop μ-loop
 with-byte-requires c κs = search needs
 
--- src/stream.rt:32:9
 add-i : tie.Need-add-i Inv-loop μ-loop
 add-i c = search needs
 
--- src/stream.rt:30:5
 loop-less : tie.Need-loop-less Inv-loop μ-loop
 loop-less c = search needs
 
--- src/stream.rt:30:5
 loop-again : tie.Need-loop-again Inv-loop μ-loop
 loop-again c =
     let l = c .before .before .before .loop in
@@ -48,7 +40,6 @@ loop-again c =
       l .inv .2 ∙ part-more (l .part) bytes (l .i) (search needs) ∙ rw (← c .with-byte .ensures),
     )
 
--- src/stream.rt:20:1
 returns : tie.Need-returns Inv-loop μ-loop
 returns c =
     let l = c .before .loop in

@@ -1,4 +1,5 @@
-use mathlib.Core.Path.{_≡_, refl, ap, sym, _∙_}
+-- `frame::stream::with_byte` meets its contract.
+use mathlib.Core.Path.{ap, sym, _∙_}
 use native.Mathlib.Nat.{add-zero}
 use native.Mathlib.Omega.{arith}
 use Rattle.frame.specs.declared.reader.Fed.{Fed}
@@ -8,71 +9,54 @@ use Rattle.frame.proofs.Parts.{frame-most, broken-most}
 use borrow.Author.Needs.{needs}
 use Rattle.frame.proofs.stream.with_byte.Statement.{statement}
 use Rattle.frame.proofs.stream.with_byte.Tie as tie
-use Rattle.frame.proofs.stream.with_byte.Reads as reads
-use Rattle.frame.proofs.stream.with_byte.Lts as lts
-use Rattle.frame.proofs.reader.Reader.feed.Reads as feed-reads
 
--- src/stream.rt:43:9
 feed-requires : tie.Need-feed-requires
 feed-requires c κs = search needs
 
--- src/stream.rt:47:32
 enum-told : tie.Need-enum-told
 enum-told c = search needs
 
--- src/stream.rt:57:20
 enum-told-2 : tie.Need-enum-told-2
 enum-told-2 c = search needs
 
--- src/stream.rt:57:20
 add-t10 : tie.Need-add-t10
 add-t10 c = search needs
 
--- src/stream.rt:59:27
 enum-known-answer : tie.Need-enum-known-answer
 enum-known-answer c = search needs
 
--- src/stream.rt:61:33
 cast-t11 : tie.Need-cast-t11
 cast-t11 c = search needs
 
--- src/stream.rt:61:20
 add-t12 : tie.Need-add-t12
 add-t12 c =
     let told = c .before .before .answer .given in
     let fed = c .before .before .before .before .before .feed in
     omega (arith, frame-most _ _ (told .0 .0) (ap (λ (f : Fed). f .answer) (sym (fed .ensures)) ∙ told .1))
 
--- src/stream.rt:65:28
 enum-known-answer-2 : tie.Need-enum-known-answer-2
 enum-known-answer-2 c = search needs
 
--- src/stream.rt:68:35
 cast-t13 : tie.Need-cast-t13
 cast-t13 c = search needs
 
--- src/stream.rt:68:21
 add-t14 : tie.Need-add-t14
 add-t14 c =
     let told = c .before .before .answer2 .given in
     let fed = c .before .before .before .before .before .feed in
     omega (arith, broken-most _ _ (told .0 .0) (ap (λ (f : Fed). f .answer) (sym (fed .ensures)) ∙ told .1))
 
--- src/stream.rt:38:1
 returns : tie.Need-returns
 unfolding count
 returns c = rw (← c .before .before .before .feed .ensures, c .enum-told .given .1) (simp add-zero)
 
--- src/stream.rt:38:1
 returns-2 : tie.Need-returns-2
 unfolding count
 returns-2 c = rw (← c .before .before .before .before .feed .ensures, c .before .enum-told2 .given .1) (simp add-zero)
 
--- src/stream.rt:38:1
 returns-3 : tie.Need-returns-3
 returns-3 c = rw (← c .before .before .before .before .before .feed .ensures, c .before .before .answer .given .1) (simp (count-replicate, add-zero))
 
--- src/stream.rt:38:1
 returns-4 : tie.Need-returns-4
 returns-4 c = rw (← c .before .before .before .before .before .feed .ensures, c .before .before .answer2 .given .1) (simp (count-replicate, add-zero))
 
