@@ -65,7 +65,7 @@ read-header Command bytes h first = rw (take-suc bytes 3 0 h, first-three bytes 
 read-header Answer bytes h first = rw (take-suc bytes 4 0 h, take-suc bytes 3 0 (omega arith), first-three bytes (omega arith) first)
 
 module _ (dir : Direction) (bytes : List ℕ) (w : Whole dir bytes) where
-  data-length : length (dataIn dir bytes) ≡ dl dir bytes
+  pub data-length : length (dataIn dir bytes) ≡ dl dir bytes
   data-length = length-take-le (dl dir bytes) (drop (header dir) bytes) (rw length-drop (omega arith))
 
   read-end : drop (header dir + dl dir bytes) bytes ≡ ends ∷ []

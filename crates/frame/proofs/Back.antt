@@ -13,8 +13,8 @@ use Rattle.frame.specs.Pick.{pick}
 use Rattle.frame.specs.Frame.{opens, ends, dataLimit, header, frameLength, frameOf, dl}
 use Rattle.frame.specs.Reader.{takenAfter, answers, takenBy}
 use Rattle.frame.specs.Capture.{kindNumber, event, eventsFrom, firstOf}
-use Rattle.frame.specs.Fields.{isFrame, bytesAt, lastOf}
-use Rattle.frame.specs.Raw.{rawSaid, rawLeft}
+use Rattle.frame.specs.Fields.{isFrame, fieldsIn, dataIn, bytesAt, lastOf}
+use Rattle.frame.specs.Raw.{placed, rawSaid, rawLeft}
 use Rattle.frame.specs.FramePromise.{Brings, Again, FramePromise}
 use Rattle.frame.specs.Computed.{stretchAt}
 use Rattle.frame.specs.declared.direction.Direction.{Direction}
@@ -27,12 +27,12 @@ use Rattle.frame.specs.declared.capture.Event.{Event}
 use Rattle.frame.specs.declared.capture.Next.the-variants as next
 use Rattle.frame.specs.declared.raw.Written.the-variants as written
 use Rattle.frame.proofs.Cases.{cases}
-use Rattle.frame.proofs.Header.{header-least}
+use Rattle.frame.proofs.Header.{header-least, frame-length}
 use Rattle.frame.proofs.Taken.{fills, taken-outside, taken-end}
 use Rattle.frame.proofs.Events.{eventsOn, events-open, events-fill, events-frame, events-here, events-end}
-use Rattle.frame.proofs.Whole.{Whole, whole-is}
+use Rattle.frame.proofs.Whole.{Whole, is-whole, whole-is}
 use Rattle.frame.proofs.Placed.{raw-left, raw-placed}
-use Rattle.frame.proofs.Again.{frame-is, frame-fields, frame-data, frame-again}
+use Rattle.frame.proofs.Again.{frame-is, frame-fields, frame-data, data-length, frame-again}
 use Rattle.frame.proofs.Live.{live-frame}
 
 -- all of a frame but its first byte and its last
@@ -212,8 +212,22 @@ module _ (dir : Direction) (capture : List ℕ) (at n : ℕ) (within : at < leng
       let here : next.Event (stretchAt (header dir) capture at) ≡ next.Event (event at n kind.Frame) = sym (ap firstOf (events-here dir capture at within)) ∙ e in
       framed (cc)
 
+written-again : (dir : Direction) (bytes : List ℕ) → isFrame dir bytes ≡ true → (buf : List ℕ) (at : ℕ) → dl dir bytes ≤ dataLimit → at + length bytes ≤ length buf
+    → rawLeft dir buf at (fieldsIn dir bytes .zone) (fieldsIn dir bytes .command) (fieldsIn dir bytes .answer) (dataIn dir bytes) ≡ placed buf at bytes
+written-again dir bytes e buf at small room =
+    let f = fieldsIn dir bytes in
+    let same = frame-again dir bytes e in
+    let few : length (dataIn dir bytes) ≡ dl dir bytes = data-length dir bytes (is-whole dir bytes e) in
+    let long : length bytes ≡ frameLength dir (length (dataIn dir bytes)) = ap length same ∙ frame-length dir (f .zone) (f .command) (f .answer) (dataIn dir bytes) in
+    raw-left dir buf at (f .zone) (f .command) (f .answer) (dataIn dir bytes) (omega arith) (omega arith)
+    ∙ ap (λ (l : List ℕ). placed buf at l) (sym same)
+
 again : (dir : Direction) (bytes : List ℕ) → isFrame dir bytes ≡ true → Again dir bytes
-again dir bytes e = record { whole = e; same = sym (frame-again dir bytes e) }
+again dir bytes e = record {
+  whole = e;
+  same = sym (frame-again dir bytes e);
+  written = λ buf at small room. written-again dir bytes e buf at small room;
+}
 
 captured : (dir : Direction) (capture : List ℕ) (at n : ℕ) → firstOf (eventsFrom dir capture at) ≡ next.Event (event at n kind.Frame) → Again dir (bytesAt capture at n)
 unfolding bytesAt

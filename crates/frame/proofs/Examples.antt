@@ -5,7 +5,7 @@ use Prim.Native.Nat.{ℕ}
 use lib.ListN.{replicate}
 use Rattle.frame.specs.Frame.{frameOf}
 use Rattle.frame.specs.Reader.{answerTo, takenAfter, answers, takenBy}
-use Rattle.frame.specs.Small.{takenOf, answersOf, fresh}
+use Rattle.frame.specs.Small.{fedAt, answersOf, fresh}
 use Rattle.frame.specs.Capture.{settled, labels, count, event, eventsTold, eventsFrom, countedOf}
 use Rattle.frame.specs.Fields.{isFrame, fieldsOf, dataOf}
 use Rattle.frame.specs.Raw.{rawSaid, rawLeft}
@@ -13,7 +13,7 @@ use Rattle.frame.specs.declared.direction.Direction.the-variants.{Comman
 use Rattle.frame.specs.declared.reader.ByteAnswer.the-variants as answer
 use Rattle.frame.specs.declared.capture.Kind.the-variants.{Frame, Broken, Noise, Pending}
 use Rattle.frame.specs.declared.capture.Counted.the-variants as counted
-use Rattle.frame.specs.declared.fields.Opened.the-variants as found
+use Rattle.frame.specs.declared.fields.Brought.the-variants as brought
 use Rattle.frame.specs.declared.raw.Written.the-variants as written
 
 -- the capture of document 01's listing
@@ -47,7 +47,7 @@ all-21 = refl
 pub fed-by-byte : answersOf (fresh Command) (0x0D ∷ 0x21 ∷ 0x01 ∷ 0x0D ∷ 0x00 ∷ 0x21 ∷ 0x01 ∷ 0x0E ∷ 0x00 ∷ 0x0D ∷ [])
     ≡ answer.Noise ∷ answer.Waiting ∷ answer.Waiting ∷ answer.Waiting ∷ answer.Waiting ∷ answer.Broken 4
     ∷ answer.Waiting ∷ answer.Waiting ∷ answer.Waiting ∷ answer.Frame 5 ∷ []
-unfolding answersOf takenOf
+unfolding answersOf fedAt
 fed-by-byte = refl
 
 -- a raw answer with two data bytes, at place 1 of nine bytes: written, and found there
@@ -67,7 +67,7 @@ pub raw-too-long : rawSaid Answer [] 1 (replicate 256 0) ≡ written.Refused 3
 unfolding rawSaid
 raw-too-long = refl
 
-pub fields-found : fieldsOf Answer (0x21 ∷ 0x01 ∷ 0x0F ∷ 0x00 ∷ 0x02 ∷ 0x06 ∷ 0x01 ∷ 0x0D ∷ []) ≡ found.Frame (record { zone = 1; command = 0x0F; answer = 0 })
+pub fields-found : fieldsOf Answer (0x21 ∷ 0x01 ∷ 0x0F ∷ 0x00 ∷ 0x02 ∷ 0x06 ∷ 0x01 ∷ 0x0D ∷ []) ≡ brought.Frame (record { zone = 1; command = 0x0F; answer = 0 })
 unfolding isFrame
 fields-found = refl
 

@@ -10,7 +10,7 @@ use lib.ListN.{length, length-append}
 use Rattle.frame.specs.Pick.{pick}
 use Rattle.frame.specs.Frame.{header, opens, ends, dl}
 use Rattle.frame.specs.Reader.{answerTo, takenAfter, answers, takenBy}
-use Rattle.frame.specs.Small.{kept, stood, takenOf, fedOf, answersOf, readerAfter}
+use Rattle.frame.specs.Small.{kept, stood, fedAt, fedOf, answersOf, readerAfter}
 use Rattle.frame.specs.declared.direction.Direction.{Direction}
 use Rattle.frame.specs.declared.reader.ByteAnswer.{ByteAnswer}
 use Rattle.frame.specs.declared.reader.ByteAnswer.the-variants.{Waiting, Noise, Frame, Broken}
@@ -27,12 +27,12 @@ module _ (dir : Direction) (taken : List ℕ) (b : ℕ) where
   inside some = ne-eqb (length taken) 0 (omega arith)
 
   -- what is kept of one byte, or of none
-  opened : (t : Bool) → kept dir (pick t (b ∷ []) []) ≡ record { direction = dir; place = pick t 1 0; count = 0 }
+  opened : (t : Bool) → kept dir (pick t (b ∷ []) []) ≡ record { direction = dir; place = pick t 1 0; dl = 0 }
   opened true = rw (dl-none dir (b ∷ []) (omega (arith, header-least dir)))
   opened false = rw (dl-none dir [] (omega (arith, header-least dir)))
 
   follows-outside : length taken ≡ 0 → Follows dir taken b
-  unfolding Follows takenOf
+  unfolding Follows fedAt
   follows-outside h =
       let step = taken-outside dir taken b h in
       rw (step .0, step .1, opened (eqb b opens), eq-eqb (length taken) 0 h)
@@ -47,7 +47,7 @@ module _ (dir : Direction) (taken : List ℕ) (b : ℕ) where
       e ∙ rw (step .0, step .1, length-append taken (b ∷ []), now)
 
   follows-header : 0 < length taken → length taken < header dir → Follows dir taken b
-  unfolding takenOf
+  unfolding fedAt
   follows-header some h = go (eqb (length taken + 1) (header dir)) refl
     where
       early : length taken < header dir + dl dir taken
@@ -62,13 +62,13 @@ module _ (dir : Direction) (taken : List ℕ) (b : ℕ) where
           (rw (inside some, lt-ltb (length taken) (header dir) h, e))
 
   follows-data : 0 < length taken → header dir ≤ length taken → length taken < header dir + dl dir taken → Follows dir taken b
-  unfolding takenOf
+  unfolding fedAt
   follows-data some h early =
       follows-inside some early (dl dir taken) (dl-more dir taken (b ∷ []) h)
       (rw (inside some, le-ltb (length taken) (header dir) h, lt-ltb (length taken) (header dir + dl dir taken) early))
 
   follows-end : 0 < length taken → length taken ≡ header dir + dl dir taken → Follows dir taken b
-  unfolding Follows takenOf
+  unfolding Follows fedAt
   follows-end some h =
       let step = taken-end dir taken b some (omega arith) in
       rw (step .0, step .1, opened (eqb b opens), inside some, le-ltb (length taken) (header dir) (omega arith), le-ltb (length taken) (header dir + dl dir taken) (omega arith), ← h)

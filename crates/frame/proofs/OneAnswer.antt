@@ -41,8 +41,8 @@ next-event-one dir capture at = one (firstOf (eventsFrom dir capture at))
 pub capture-totals-one : (dir : Direction) (capture : List ℕ) → OneAnswer (λ x. x ≡ countedOf dir capture)
 capture-totals-one dir capture = one (countedOf dir capture)
 
-pub capture-totals-by-one : (letter : ℕ) (capture : List ℕ) → OneAnswer (λ x. x ≡ countedBy (directionOf letter) capture)
-capture-totals-by-one letter capture = one (countedBy (directionOf letter) capture)
+pub capture-totals-by-letter-one : (letter : ℕ) (capture : List ℕ) → OneAnswer (λ x. x ≡ countedBy (directionOf letter) capture)
+capture-totals-by-letter-one letter capture = one (countedBy (directionOf letter) capture)
 
 pub frame-fields-one : (dir : Direction) (bytes : List ℕ) → OneAnswer (λ x. x ≡ fieldsOf dir bytes)
 frame-fields-one dir bytes = one (fieldsOf dir bytes)

@@ -10,7 +10,7 @@ use lib.Dec.{eqb, ltb}
 use lib.ListN.{length, drop, getD, length-replicate, drop-of-length-le}
 use lib.Seq.{drop-cons}
 use Rattle.frame.specs.Frame.{header, opens, ends}
-use Rattle.frame.specs.Small.{takenOf, fedOf, answersOf, readerAfter}
+use Rattle.frame.specs.Small.{fedAt, fedOf, answersOf, readerAfter}
 use Rattle.frame.specs.Capture.{count, settles, settled}
 use Rattle.frame.specs.Computed.{withFed}
 use Rattle.frame.specs.declared.direction.Direction.{Direction}
@@ -26,8 +26,8 @@ use Rattle.frame.proofs.Labels.{count-append, count-all}
 unfoldable Settles : ℕ → Fed → Type 0
 Settles place f = length (settles (f .answer)) + f .reader .place ≤ place + 1
 
-settles-taken : (dir : Direction) (head place count b : ℕ) → Settles place (takenOf dir head place count b)
-unfolding takenOf Settles
+settles-taken : (dir : Direction) (head place count b : ℕ) → Settles place (fedAt dir head place count b)
+unfolding fedAt Settles
 settles-taken dir head place count b =
     cases (Settles place) (eqb place 0)
     (λ e. cases (Settles place) (eqb b opens) (λ e. omega arith) (λ e. omega arith))
@@ -45,7 +45,7 @@ settles-taken dir head place count b =
 
 pub settles-most : (r : Reader) (b : ℕ) → length (settles (fedOf r b .answer)) + fedOf r b .reader .place ≤ r .place + 1
 unfolding Settles
-settles-most r b = settles-taken (r .direction) (header (r .direction)) (r .place) (r .count) b
+settles-most r b = settles-taken (r .direction) (header (r .direction)) (r .place) (r .dl) b
 
 -- so the length that a frame or a broken stretch comes with is no longer either
 pub frame-most : (r : Reader) (b n : ℕ) → fedOf r b .answer ≡ answer.Frame n → n ≤ r .place + 1

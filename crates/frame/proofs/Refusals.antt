@@ -2,12 +2,16 @@
 use mathlib.Core.Path.{_≡_, refl}
 use mathlib.Core.List.{List}
 use Prim.Native.Nat.{ℕ}
+use native.Mathlib.Omega.{arith}
+use borrow.Author.Tests.{ne-eqb}
 use Rattle.frame.specs.Letter.{directionOf}
 use Rattle.frame.specs.Capture.{countedBy}
 use Rattle.frame.specs.Raw.{rawSaid, rawLeft}
-use Rattle.frame.specs.Numbers.{writtenNumber, writtenCount, countedNumber, countedTotals, noTotals}
+use Rattle.frame.specs.Numbers.{letterNumber, writtenNumber, writtenCount, countedNumber, countedTotals, noTotals}
 use Rattle.frame.specs.RefusalPromise.{RefusalPromise}
 use Rattle.frame.specs.declared.direction.Direction.{Direction}
+use Rattle.frame.specs.declared.direction.Named.{Named}
+use Rattle.frame.specs.declared.direction.Named.the-variants as named
 use Rattle.frame.specs.declared.raw.Written.{Written}
 use Rattle.frame.specs.declared.raw.Written.the-variants as written
 use Rattle.frame.specs.declared.capture.Counted.{Counted}
@@ -30,8 +34,18 @@ kept dir buf at zone command code body refused = go (rawSaid dir buf at body) re
     go (written.Bytes n) e r = absurd (r refl)
     go (written.Refused n) e r = raw-refused dir buf at zone command code body n e
 
+other-letter : (l : ℕ) → (l ≡ 0x43 → ⊥) → (l ≡ 0x52 → ⊥) → letterNumber (directionOf l) ≡ 12
+unfolding directionOf
+other-letter l c r = rw (ne-eqb l 0x43 c, ne-eqb l 0x52 r)
+
+letter-first : (n : Named) (capture : List ℕ) → letterNumber n ≡ 12 → countedNumber (countedBy n capture) ≡ 12
+letter-first (named.Direction dir) capture e = absurd (omega (arith, e))
+letter-first (named.Refused n) capture e = e
+
 pub refusal-promise : RefusalPromise
 refusal-promise = record {
+  letter = other-letter;
+  first = λ l. letter-first (directionOf l);
   kept = kept;
   none = λ dir buf at body. none (rawSaid dir buf at body);
   zero = λ letter capture. zeros (countedBy (directionOf letter) capture);

@@ -42,6 +42,7 @@ settled (a ∷ rest) = settles a ++ settled rest
 unfoldable pub labels : Direction → List ℕ → List Kind
 labels dir capture = settled (answers dir [] capture) ++ replicate (length (takenBy dir [] capture)) Pending
 
+-- only to tell the kinds apart: document 01 gives them no numbers
 abbrev pub kindNumber : Kind → ℕ
 kindNumber Frame = 0
 kindNumber Broken = 1
@@ -69,7 +70,7 @@ countedOf dir capture =
 
 -- "Order: 12, then 11, before all others."
 abbrev pub countedBy : Named → List ℕ → Counted
-countedBy (named.Way dir) capture = countedOf dir capture
+countedBy (named.Direction dir) capture = countedOf dir capture
 countedBy (named.Refused n) capture = counted.Refused n
 
 -- a part of a stream, from a given reader: the reader after it, and how many bytes it settled as each kind
@@ -81,7 +82,7 @@ partOf r bytes = record {
   noise = count Noise (settled (answersOf r bytes));
 }
 
--- the events that answers tell, of a stretch that began at a place; what is pending at the end is one event
+-- the events that the answers make, the first of them starting at a place; bytes that are left pending are one event more
 abbrev pub event : ℕ → ℕ → Kind → Event
 event at n k = record { at = at; length = n; kind = k }
 

@@ -9,8 +9,8 @@ use Rattle.frame.specs.Frame.{opens, ends, header, frameLength, dl}
 use Rattle.frame.specs.declared.direction.Direction.{Direction}
 use Rattle.frame.specs.declared.direction.Direction.the-variants.{Command, Answer}
 use Rattle.frame.specs.declared.fields.Fields.{Fields}
-use Rattle.frame.specs.declared.fields.Opened.{Opened}
-use Rattle.frame.specs.declared.fields.Opened.the-variants as found
+use Rattle.frame.specs.declared.fields.Brought.{Brought}
+use Rattle.frame.specs.declared.fields.Brought.the-variants as brought
 
 -- "Command: 21 Zn Cc Dl data 0D. Answer: 21 Zn Cc Ac Dl data 0D.": one whole frame has 21 first, as many bytes as Dl says, and 0D last
 unfoldable pub isFrame : Direction → List ℕ → Bool
@@ -36,8 +36,8 @@ abbrev pub dataIn : Direction → List ℕ → List ℕ
 dataIn dir bytes = take (dl dir bytes) (drop (header dir) bytes)
 
 -- what a frame brings; bytes that are not one whole frame bring nothing
-abbrev pub fieldsOf : Direction → List ℕ → Opened
-fieldsOf dir bytes = pick (isFrame dir bytes) (found.Frame (fieldsIn dir bytes)) found.NotOneFrame
+abbrev pub fieldsOf : Direction → List ℕ → Brought
+fieldsOf dir bytes = pick (isFrame dir bytes) (brought.Frame (fieldsIn dir bytes)) brought.NotOneFrame
 
 abbrev pub dataOf : Direction → List ℕ → List ℕ
 dataOf dir bytes = pick (isFrame dir bytes) (dataIn dir bytes) []

@@ -1,4 +1,5 @@
--- What a reader of this crate must believe, in document 01's order; then the promises.
+-- What must be believed: what the rest uses, the frame and its reader, captures, what a frame brings, writing; then the
+-- promises. `Computed` need not be believed.
 pub mod Pick
 pub mod Refusal
 pub mod Letter

@@ -11,7 +11,7 @@ use Rattle.frame.specs.declared.capture.Counted.the-variants as counted
 
 -- a letter
 abbrev pub letterNumber : Named → ℕ
-letterNumber (named.Way dir) = 0
+letterNumber (named.Direction dir) = 0
 letterNumber (named.Refused n) = n
 
 -- a write: its number, and how many bytes it wrote

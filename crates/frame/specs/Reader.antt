@@ -30,7 +30,8 @@ answerTo dir taken b =
     (pick (eqb b opens) (Broken (length taken)) (Broken (length taken + 1))))
     Waiting)
 
--- "outside, 21 opens a frame"; at the end place "it opens the next frame"; "inside, bytes fill the places in order"
+-- "outside, 21 opens a frame"; "inside, bytes fill the places in order"; at the end place 21 "opens the next frame" and after
+-- any other byte the reader stands outside: "Nothing inside a broken stretch is read again."
 unfoldable pub takenAfter : Direction → List ℕ → ℕ → List ℕ
 takenAfter dir taken b =
     pick (outside taken || atEnd dir taken) (pick (eqb b opens) (b ∷ []) []) (taken ++ b ∷ [])

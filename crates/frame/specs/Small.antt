@@ -1,5 +1,6 @@
--- The reader that the code keeps: the definition's reader without the bytes. It is answered by the same rule
--- for every value of its fields; a place past the end place counts as the end place.
+-- The reader that the code keeps: the definition's reader without the bytes. Wherever a stream can lead it, it answers by
+-- the same rule (ReaderPromise). The host may have spoilt its fields: it answers for each value of them, and a place past
+-- the end place, where no stream leads, counts as the end place.
 use Prim.Native.Nat.{ℕ, _+_}
 use mathlib.Core.List.{List, [], _∷_}
 use lib.Dec.{eqb, ltb}
@@ -14,29 +15,29 @@ use Rattle.frame.specs.declared.reader.Fed.{Fed}
 
 -- what is kept of the bytes taken: how many they are, and Dl
 abbrev pub kept : Direction → List ℕ → Reader
-kept dir taken = record { direction = dir; place = length taken; count = dl dir taken }
+kept dir taken = record { direction = dir; place = length taken; dl = dl dir taken }
 
 abbrev pub fresh : Direction → Reader
-fresh dir = record { direction = dir; place = 0; count = 0 }
+fresh dir = record { direction = dir; place = 0; dl = 0 }
 
 abbrev pub stood : Direction → ℕ → ℕ → ByteAnswer → Fed
-stood dir place count answer = record { reader = record { direction = dir; place = place; count = count }; answer = answer }
+stood dir place n answer = record { reader = record { direction = dir; place = place; dl = n }; answer = answer }
 
 -- one byte, over the header's length
-unfoldable pub takenOf : Direction → ℕ → ℕ → ℕ → ℕ → Fed
-takenOf dir head place count b =
+unfoldable pub fedAt : Direction → ℕ → ℕ → ℕ → ℕ → Fed
+fedAt dir head place n b =
     pick (eqb place 0)
     (pick (eqb b opens) (stood dir 1 0 Waiting) (stood dir 0 0 Noise))
     (pick (ltb place head)
     (pick (eqb (place + 1) head) (stood dir (place + 1) b Waiting) (stood dir (place + 1) 0 Waiting))
-    (pick (ltb place (head + count))
-    (stood dir (place + 1) count Waiting)
+    (pick (ltb place (head + n))
+    (stood dir (place + 1) n Waiting)
     (pick (eqb b ends)
-    (stood dir 0 0 (Frame (head + count + 1)))
-    (pick (eqb b opens) (stood dir 1 0 (Broken (head + count))) (stood dir 0 0 (Broken (head + count + 1)))))))
+    (stood dir 0 0 (Frame (head + n + 1)))
+    (pick (eqb b opens) (stood dir 1 0 (Broken (head + n))) (stood dir 0 0 (Broken (head + n + 1)))))))
 
 abbrev pub fedOf : Reader → ℕ → Fed
-fedOf r b = takenOf (r .direction) (header (r .direction)) (r .place) (r .count) b
+fedOf r b = fedAt (r .direction) (header (r .direction)) (r .place) (r .dl) b
 
 -- a part of a stream, from a given reader: the answers, and the reader after them
 unfoldable pub answersOf : Reader → List ℕ → List ByteAnswer

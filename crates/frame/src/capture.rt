@@ -45,7 +45,8 @@ pub enum Counted {
     Refused(u8),
 }
 
-// The event that starts at a place. Begin at 0, and go on at the event's place plus its length.
+// The first event that a fresh reader makes of the bytes from a place on. Begin at 0 and go on at
+// each event's end: these are the capture's events. No length is refused here.
 pub fn next_event(direction: Direction, capture: &[u8], at: usize) -> Next
     ensures { λ r. ⌜ r ≡ firstOf (eventsFrom direction (now (capture .entry)) at) ⌝ }
 {
@@ -66,11 +67,11 @@ pub fn capture_totals(direction: Direction, capture: &[u8]) -> Counted
 }
 
 // The same by the direction's letter; 12 for a letter that names none, before 11.
-pub fn capture_totals_by(letter: u8, capture: &[u8]) -> Counted
+pub fn capture_totals_by_letter(letter: u8, capture: &[u8]) -> Counted
     ensures { λ r. ⌜ r ≡ countedBy (directionOf letter) (now (capture .entry)) ⌝ }
 {
     match direction_of(letter) {
-        Named::Way(direction) => capture_totals(direction, capture),
+        Named::Direction(direction) => capture_totals(direction, capture),
         Named::Refused(number) => Counted::Refused(number),
     }
 }

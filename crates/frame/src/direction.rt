@@ -9,7 +9,7 @@ pub enum Direction {
 
 // What a direction letter names.
 pub enum Named {
-    Way(Direction),
+    Direction(Direction),
     Refused(u8),
 }
 
@@ -18,10 +18,10 @@ pub fn direction_of(letter: u8) -> Named
     ensures { λ r. ⌜ r ≡ directionOf letter ⌝ }
 {
     if letter == b'C' {
-        return Named::Way(Direction::Command);
+        return Named::Direction(Direction::Command);
     }
     if letter == b'R' {
-        return Named::Way(Direction::Answer);
+        return Named::Direction(Direction::Answer);
     }
     Named::Refused(12)
 }

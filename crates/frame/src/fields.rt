@@ -14,19 +14,19 @@ pub struct Fields {
 }
 
 // What bytes bring: the fields of the one frame that they are, or nothing.
-pub enum Opened {
+pub enum Brought {
     Frame(Fields),
     NotOneFrame,
 }
 
 // The zone, command and answer code of the bytes of one whole frame.
-pub fn frame_fields(direction: Direction, bytes: &[u8]) -> Opened
+pub fn frame_fields(direction: Direction, bytes: &[u8]) -> Brought
     ensures { λ r. ⌜ r ≡ fieldsOf direction (now (bytes .entry)) ⌝ }
 {
     if !is_frame(direction, bytes) {
-        return Opened::NotOneFrame;
+        return Brought::NotOneFrame;
     }
-    Opened::Frame(Fields {
+    Brought::Frame(Fields {
         zone: bytes[1],
         command: bytes[2],
         answer: answer_code(direction, bytes),
@@ -58,7 +58,8 @@ pub fn bytes_at(capture: &[u8], at: usize, length: usize) -> &[u8]
     &capture[at..at + length]
 }
 
-// The last bytes of those kept: a part of what is lent. Where there are fewer, none.
+// The last bytes of those that the host kept of a live port: after the answer frame, the frame. Where
+// fewer are kept, none.
 pub fn last_bytes(kept: &[u8], count: usize) -> &[u8]
     ensures { λ r. ⌜ now r ≡ lastOf (now (kept .entry)) count ⌝ }
 {

@@ -15,7 +15,8 @@ pub enum Written {
 }
 
 // Writes a frame of any zone, command and answer code into the rest of the buffer from a place: 3
-// for data over 255, then 9. A command has no answer code, so none is written.
+// for data over 255, then 9 where there is no room, and then the buffer is as it was. A command has
+// no answer code, so none is written.
 pub fn write_raw(
     direction: Direction,
     buf: &mut [u8],

@@ -2,9 +2,10 @@ use crate::direction::Direction;
 ghost use mathlib.Core.Path.{_≡_};
 ghost use Prim.Native.Nat.{_≤_};
 ghost use Rattle.frame.specs.Frame.{header};
-ghost use Rattle.frame.specs.Small.{fresh, stood, takenOf, fedOf};
+ghost use Rattle.frame.specs.Small.{fresh, stood, fedAt, fedOf};
 
-// The answer to one byte. A frame and a broken stretch come with their length in bytes.
+// The answer to one byte. A frame and a broken stretch come with their length in bytes. The host
+// keeps the bytes: 261 of them are enough for the longest frame.
 pub enum ByteAnswer {
     Waiting,
     Noise,
@@ -13,11 +14,11 @@ pub enum ByteAnswer {
 }
 
 // A reader for one direction. It keeps no bytes of the frame: `place` is how many are taken (0: it
-// stands outside), and `count` is Dl, or 0 while Dl is still to come.
+// stands outside), and `dl` is Dl, or 0 while Dl is still to come.
 pub struct Reader {
     pub direction: Direction,
     pub place: u16,
-    pub count: u8,
+    pub dl: u8,
 }
 
 // The reader after a byte, and the answer to that byte.
@@ -47,7 +48,7 @@ impl Reader {
         Self {
             direction: direction,
             place: 0,
-            count: 0,
+            dl: 0,
         }
     }
 
@@ -61,7 +62,8 @@ impl Reader {
         }
     }
 
-    // Takes one byte.
+    // Takes one byte. Whatever the fields hold is answered: a place past the end place counts as the
+    // end place.
     pub fn feed(self, byte: u8) -> Fed
         ensures { λ r. ⌜ r ≡ fedOf self byte ⌝ }
     {
@@ -70,16 +72,16 @@ impl Reader {
             direction,
             Reader::header(direction),
             self.place,
-            self.count,
+            self.dl,
             byte,
         )
     }
 }
 
-// One byte by the reader's rule, over the header's length. A place past the end place counts as the end place.
-fn take(direction: Direction, header: u16, place: u16, count: u8, byte: u8) -> Fed
+// One byte by the reader's rule, over the header's length.
+fn take(direction: Direction, header: u16, place: u16, dl: u8, byte: u8) -> Fed
     requires { ⌜ header ≤ 5 ⌝ }
-    ensures { λ r. ⌜ r ≡ takenOf direction header place count byte ⌝ }
+    ensures { λ r. ⌜ r ≡ fedAt direction header place dl byte ⌝ }
 {
     if place == 0 {
         if byte == Reader::OPENS {
@@ -93,9 +95,9 @@ fn take(direction: Direction, header: u16, place: u16, count: u8, byte: u8) -> F
         }
         return stands(direction, place + 1, 0, ByteAnswer::Waiting);
     }
-    let end = header + count as u16;
+    let end = header + dl as u16;
     if place < end {
-        return stands(direction, place + 1, count, ByteAnswer::Waiting);
+        return stands(direction, place + 1, dl, ByteAnswer::Waiting);
     }
     if byte == Reader::ENDS {
         return stands(direction, 0, 0, ByteAnswer::Frame(end + 1));
@@ -107,14 +109,14 @@ fn take(direction: Direction, header: u16, place: u16, count: u8, byte: u8) -> F
 }
 
 // Where a reader stands after a byte, with the answer to it.
-fn stands(direction: Direction, place: u16, count: u8, answer: ByteAnswer) -> Fed
-    ensures { λ r. ⌜ r ≡ stood direction place count answer ⌝ }
+fn stands(direction: Direction, place: u16, dl: u8, answer: ByteAnswer) -> Fed
+    ensures { λ r. ⌜ r ≡ stood direction place dl answer ⌝ }
 {
     Fed {
         reader: Reader {
             direction: direction,
             place: place,
-            count: count,
+            dl: dl,
         },
         answer: answer,
     }

@@ -5,7 +5,7 @@ use frame::capture::Kind;
 use frame::capture::Next;
 use frame::direction::Direction;
 use frame::direction::Named;
-use frame::fields::Opened;
+use frame::fields::Brought;
 use frame::raw::Written;
 use frame::reader::ByteAnswer;
 use frame::reader::Fed;
@@ -86,7 +86,7 @@ fn main() {
 fn show(letter: u8, capture: &[u8]) {
     io::write_all(OUT, &[letter, b'\n']);
     show_direction(letter, capture);
-    match frame::capture::capture_totals_by(letter, capture) {
+    match frame::capture::capture_totals_by_letter(letter, capture) {
         Counted::Totals(t) => {
             say(b"totals frame ", t.frame as u64);
             say(b" broken ", t.broken as u64);
@@ -103,7 +103,7 @@ fn show(letter: u8, capture: &[u8]) {
 
 fn show_direction(letter: u8, capture: &[u8]) {
     match frame::direction::direction_of(letter) {
-        Named::Way(direction) => {
+        Named::Direction(direction) => {
             show_answers(direction, capture);
             show_events(direction, capture);
         }
@@ -187,14 +187,14 @@ fn show_event(direction: Direction, capture: &[u8], event: Event) {
 
 fn show_fields(direction: Direction, bytes: &[u8]) {
     match frame::fields::frame_fields(direction, bytes) {
-        Opened::Frame(f) => {
+        Brought::Frame(f) => {
             say(b" zone ", f.zone as u64);
             say(b" command ", f.command as u64);
             say(b" answer ", f.answer as u64);
             io::write_all(OUT, b" data");
             show_bytes(frame::fields::frame_data(direction, bytes));
         }
-        Opened::NotOneFrame => {
+        Brought::NotOneFrame => {
             io::write_all(OUT, b" not one frame");
         }
     }

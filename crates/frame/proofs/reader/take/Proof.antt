@@ -1,6 +1,6 @@
 -- `frame::reader::take` meets its contract.
 use borrow.Author.Tests.{eq-eqb, ne-eqb, le-leb, lt-leb, lt-ltb, le-ltb}
-use Rattle.frame.specs.Small.{takenOf}
+use Rattle.frame.specs.Small.{fedAt}
 use borrow.Author.Needs.{needs}
 use Rattle.frame.proofs.reader.take.Statement.{statement}
 use Rattle.frame.proofs.reader.take.Tie as tie
@@ -9,14 +9,14 @@ stands-requires : tie.Need-stands-requires
 stands-requires c κs = search needs
 
 returns : tie.Need-returns
-unfolding takenOf
+unfolding fedAt
 returns c = search (needs, eq-eqb, ne-eqb, le-leb, lt-leb, lt-ltb, le-ltb)
 
 stands-requires-2 : tie.Need-stands-requires-2
 stands-requires-2 c κs = search needs
 
 returns-2 : tie.Need-returns-2
-unfolding takenOf
+unfolding fedAt
 returns-2 c = search (needs, eq-eqb, ne-eqb, le-leb, lt-leb, lt-ltb, le-ltb)
 
 add-if4 : tie.Need-add-if4
@@ -29,7 +29,7 @@ stands-requires-3 : tie.Need-stands-requires-3
 stands-requires-3 c κs = search needs
 
 returns-3 : tie.Need-returns-3
-unfolding takenOf
+unfolding fedAt
 returns-3 c = search (needs, eq-eqb, ne-eqb, le-leb, lt-leb, lt-ltb, le-ltb)
 
 add-stands-2 : tie.Need-add-stands-2
@@ -39,7 +39,7 @@ stands-requires-4 : tie.Need-stands-requires-4
 stands-requires-4 c κs = search needs
 
 returns-4 : tie.Need-returns-4
-unfolding takenOf
+unfolding fedAt
 returns-4 c = search (needs, eq-eqb, ne-eqb, le-leb, lt-leb, lt-ltb, le-ltb)
 
 add-end : tie.Need-add-end
@@ -52,7 +52,7 @@ stands-requires-5 : tie.Need-stands-requires-5
 stands-requires-5 c κs = search needs
 
 returns-5 : tie.Need-returns-5
-unfolding takenOf
+unfolding fedAt
 returns-5 c = search (needs, eq-eqb, ne-eqb, le-leb, lt-leb, lt-ltb, le-ltb)
 
 add-t19 : tie.Need-add-t19
@@ -62,14 +62,14 @@ stands-requires-6 : tie.Need-stands-requires-6
 stands-requires-6 c κs = search needs
 
 returns-6 : tie.Need-returns-6
-unfolding takenOf
+unfolding fedAt
 returns-6 c = search (needs, eq-eqb, ne-eqb, le-leb, lt-leb, lt-ltb, le-ltb)
 
 stands-requires-7 : tie.Need-stands-requires-7
 stands-requires-7 c κs = search needs
 
 returns-7 : tie.Need-returns-7
-unfolding takenOf
+unfolding fedAt
 returns-7 c = search (needs, eq-eqb, ne-eqb, le-leb, lt-leb, lt-ltb, le-ltb)
 
 add-t16 : tie.Need-add-t16
@@ -79,7 +79,7 @@ stands-requires-8 : tie.Need-stands-requires-8
 stands-requires-8 c κs = search needs
 
 returns-8 : tie.Need-returns-8
-unfolding takenOf
+unfolding fedAt
 returns-8 c = search (needs, eq-eqb, ne-eqb, le-leb, lt-leb, lt-ltb, le-ltb)
 
 pub take-spec : {M : Type 1} → statement M

@@ -1,8 +1,8 @@
--- `frame::capture::capture_totals_by` meets its contract.
+-- `frame::capture::capture_totals_by_letter` meets its contract.
 use mathlib.Core.Path.{_∙_}
 use borrow.Author.Needs.{needs}
-use Rattle.frame.proofs.capture.capture_totals_by.Statement.{statement}
-use Rattle.frame.proofs.capture.capture_totals_by.Tie as tie
+use Rattle.frame.proofs.capture.capture_totals_by_letter.Statement.{statement}
+use Rattle.frame.proofs.capture.capture_totals_by_letter.Tie as tie
 
 direction-of-requires : tie.Need-direction-of-requires
 direction-of-requires c κs = search needs
@@ -22,8 +22,8 @@ returns c = c .capture-totals .ensures ∙ rw (← c .before .before .before .be
 returns-2 : tie.Need-returns-2
 returns-2 c = rw (← c .before .before .before .direction-of .ensures, c .before .number .given .1)
 
-pub capture-totals-by-spec : {M : Type 1} → statement M
-capture-totals-by-spec =
+pub capture-totals-by-letter-spec : {M : Type 1} → statement M
+capture-totals-by-letter-spec =
     tie.close
     (tie.spec
     direction-of-requires
