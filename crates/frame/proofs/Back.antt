@@ -1,6 +1,6 @@
 -- A raw frame that is written reads back, and a frame that is read is its own bytes again.
 use mathlib.Core.Path.{_≡_, refl, ap, sym, _∙_, subst}
-use mathlib.Core.Bool.{Bool, true, false, _||_}
+use mathlib.Core.Bool.{Bool, true, false, _||_, cond}
 use mathlib.Core.List.{List, [], _∷_, _++_, append-assoc}
 use Prim.Native.Nat.{ℕ, _+_, _-_, _≤_, _<_}
 use native.Mathlib.Nat.{add-zero}
@@ -9,7 +9,6 @@ use borrow.Author.Tests.{le-leb, eqb-true, leb-true, leb-false, ltb-false}
 use lib.Dec.{eqb, ltb, leb}
 use lib.ListN.{length, take, drop, getD, replicate, length-drop}
 use lib.Seq.{drop-at, getD-take, getD-drop, length-take-le}
-use Rattle.frame.specs.Pick.{pick}
 use Rattle.frame.specs.Frame.{opens, ends, dataLimit, header, frameLength, frameOf, dl}
 use Rattle.frame.specs.Reader.{takenAfter, answers, takenBy}
 use Rattle.frame.specs.Capture.{kindNumber, event, eventsFrom, firstOf}
@@ -129,7 +128,7 @@ accepted dir buf at body n e = go (ltb dataLimit (length body)) (ltb (length buf
     refused k f = let z : _≡_ {A = ℕ} 0 1 = cc in absurd (omega arith)
 
     go : (t u v : Bool) → ltb dataLimit (length body) ≡ t → ltb (length buf) at ≡ u → ltb (length buf - at) (frameLength dir (length body)) ≡ v
-        → pick t (written.Refused 3) (pick (u || v) (written.Refused 9) (written.Bytes (frameLength dir (length body)))) ≡ written.Bytes n → Goal
+        → cond t (written.Refused 3) (cond (u || v) (written.Refused 9) (written.Bytes (frameLength dir (length body)))) ≡ written.Bytes n → Goal
     go true u v f g h k = refused 3 k
     go false true v f g h k = refused 9 k
     go false false true f g h k = refused 9 k

@@ -5,7 +5,7 @@ use Prim.Native.Nat.{ℕ, _+_}
 use native.Mathlib.Nat.{add-zero, zero-add}
 use lib.Dec.{eqb}
 use lib.ListN.{length, replicate}
-use Rattle.frame.specs.Pick.{pick}
+use mathlib.Core.Bool.{cond}
 use Rattle.frame.specs.Reader.{answers, takenBy}
 use Rattle.frame.specs.Small.{fedOf, fresh, answersOf, readerAfter}
 use Rattle.frame.specs.Capture.{kindNumber, settles, settled, labels, count, partOf}
@@ -58,7 +58,7 @@ none-pending (answer.Broken n ∷ rest) = rw (count-append Pending (replicate n 
 
 -- the labels of a kind: those that the reader settled, and the pending ones
 labels-count : (k : Kind) (dir : Direction) (capture : List ℕ)
-    → count k (labels dir capture) ≡ count k (settled (answersOf (fresh dir) capture)) + pick (eqb (kindNumber k) 3) (readerAfter (fresh dir) capture .place) 0
+    → count k (labels dir capture) ≡ count k (settled (answersOf (fresh dir) capture)) + cond (eqb (kindNumber k) 3) (readerAfter (fresh dir) capture .place) 0
 unfolding labels
 labels-count k dir capture =
     count-append k (settled (answers dir [] capture)) (replicate (length (takenBy dir [] capture)) Pending)

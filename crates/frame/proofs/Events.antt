@@ -1,6 +1,6 @@
 -- The events of a capture, stretch by stretch.
 use mathlib.Core.Path.{_≡_, refl, ap, sym, _∙_, subst}
-use mathlib.Core.Bool.{true, false}
+use mathlib.Core.Bool.{true, false, cond}
 use mathlib.Core.List.{List, [], _∷_, _++_, append-nil}
 use Prim.Native.Nat.{ℕ, zero, suc, _+_, _-_, _≤_, _<_}
 use native.Mathlib.Nat.{add-zero}
@@ -10,7 +10,6 @@ use borrow.Author.Tests.{ne-eqb, leb-true, leb-false, eqb-true}
 use lib.Dec.{eqb, leb}
 use lib.ListN.{length, take, drop, getD, replicate, length-drop, drop-of-length-le, take-append-drop}
 use lib.Seq.{drop-cons, getD-drop, getD-take, drop-drop, length-take-le, drop-length}
-use Rattle.frame.specs.Pick.{pick}
 use Rattle.frame.specs.Frame.{header, opens, ends, dl}
 use Rattle.frame.specs.Reader.{answerTo, takenAfter, answers, takenBy}
 use Rattle.frame.specs.Capture.{event, eventsTold, eventsFrom}
@@ -101,12 +100,12 @@ Leads dir at bs e = eventsOn dir at [] bs ≡ e ∷ eventsOn dir (at + e .length
 -- the stretch at the head of bytes, over the place of the frame's end
 abbrev stretchTo : ℕ → List ℕ → ℕ → Event
 stretchTo end bs at =
-    pick (eqb (getD bs 0 0) opens)
-    (pick (leb (length bs) end)
+    cond (eqb (getD bs 0 0) opens)
+    (cond (leb (length bs) end)
     (event at (length bs) Pending)
-    (pick (eqb (getD bs end 0) ends)
+    (cond (eqb (getD bs end 0) ends)
     (event at (end + 1) Frame)
-    (pick (eqb (getD bs end 0) opens) (event at end Broken) (event at (end + 1) Broken))))
+    (cond (eqb (getD bs end 0) opens) (event at end Broken) (event at (end + 1) Broken))))
     (event at 1 Noise)
 
 module _ (dir : Direction) (at b : ℕ) (rest : List ℕ) (m : ℕ) (end : header dir + dl dir (b ∷ rest) ≡ suc m) where

@@ -1,13 +1,12 @@
 -- The reader that the code keeps follows the definition's reader.
 use mathlib.Core.Path.{_≡_, refl, ap, _∙_}
-use mathlib.Core.Bool.{Bool, true, false}
+use mathlib.Core.Bool.{Bool, true, false, cond}
 use mathlib.Core.List.{List, [], _∷_, _++_}
 use Prim.Native.Nat.{ℕ, _+_, _-_, _≤_, _<_}
 use native.Mathlib.Omega.{arith}
 use borrow.Author.Tests.{eq-eqb, ne-eqb, lt-ltb, le-ltb, eqb-true, eqb-false, ltb-true, ltb-false}
 use lib.Dec.{eqb, ltb}
 use lib.ListN.{length, length-append}
-use Rattle.frame.specs.Pick.{pick}
 use Rattle.frame.specs.Frame.{header, opens, ends, dl}
 use Rattle.frame.specs.Reader.{answerTo, takenAfter, answers, takenBy}
 use Rattle.frame.specs.Small.{kept, stood, fedAt, fedOf, answersOf, readerAfter}
@@ -27,7 +26,7 @@ module _ (dir : Direction) (taken : List ℕ) (b : ℕ) where
   inside some = ne-eqb (length taken) 0 (omega arith)
 
   -- what is kept of one byte, or of none
-  opened : (t : Bool) → kept dir (pick t (b ∷ []) []) ≡ record { direction = dir; place = pick t 1 0; dl = 0 }
+  opened : (t : Bool) → kept dir (cond t (b ∷ []) []) ≡ record { direction = dir; place = cond t 1 0; dl = 0 }
   opened true = rw (dl-none dir (b ∷ []) (omega (arith, header-least dir)))
   opened false = rw (dl-none dir [] (omega (arith, header-least dir)))
 
@@ -36,7 +35,7 @@ module _ (dir : Direction) (taken : List ℕ) (b : ℕ) where
   follows-outside h =
       let step = taken-outside dir taken b h in
       rw (step .0, step .1, opened (eqb b opens), eq-eqb (length taken) 0 h)
-      (elim (eqb b opens) as (λ t. pick t (stood dir 1 0 Waiting) (stood dir 0 0 Noise) ≡ stood dir (pick t 1 0) 0 (pick t Waiting Noise)) [ true ↦ refl | false ↦ refl ])
+      (elim (eqb b opens) as (λ t. cond t (stood dir 1 0 Waiting) (stood dir 0 0 Noise) ≡ stood dir (cond t 1 0) 0 (cond t Waiting Noise)) [ true ↦ refl | false ↦ refl ])
 
   -- inside: the place is filled
   follows-inside : 0 < length taken → length taken < header dir + dl dir taken → (count : ℕ) → dl dir (taken ++ b ∷ []) ≡ count
@@ -75,12 +74,12 @@ module _ (dir : Direction) (taken : List ℕ) (b : ℕ) where
       (go (eqb b ends) refl)
     where
       go : (t : Bool) → eqb b ends ≡ t
-          → pick t (stood dir 0 0 (Frame (length taken + 1))) (pick (eqb b opens) (stood dir 1 0 (Broken (length taken))) (stood dir 0 0 (Broken (length taken + 1))))
-          ≡ stood dir (pick (eqb b opens) 1 0) 0 (pick t (Frame (length taken + 1)) (pick (eqb b opens) (Broken (length taken)) (Broken (length taken + 1))))
+          → cond t (stood dir 0 0 (Frame (length taken + 1))) (cond (eqb b opens) (stood dir 1 0 (Broken (length taken))) (stood dir 0 0 (Broken (length taken + 1))))
+          ≡ stood dir (cond (eqb b opens) 1 0) 0 (cond t (Frame (length taken + 1)) (cond (eqb b opens) (Broken (length taken)) (Broken (length taken + 1))))
       go true e = rw (ne-eqb b opens (omega (arith, eqb-true b ends e)))
       go false e =
-          elim (eqb b opens) as (λ t. pick t (stood dir 1 0 (Broken (length taken))) (stood dir 0 0 (Broken (length taken + 1)))
-          ≡ stood dir (pick t 1 0) 0 (pick t (Broken (length taken)) (Broken (length taken + 1)))) [ true ↦ refl | false ↦ refl ]
+          elim (eqb b opens) as (λ t. cond t (stood dir 1 0 (Broken (length taken))) (stood dir 0 0 (Broken (length taken + 1)))
+          ≡ stood dir (cond t 1 0) 0 (cond t (Broken (length taken)) (Broken (length taken + 1)))) [ true ↦ refl | false ↦ refl ]
 
 pub follows : (dir : Direction) (taken : List ℕ) (b : ℕ) → Stands dir taken → Follows dir taken b
 follows dir taken b s = go (eqb (length taken) 0) (ltb (length taken) (header dir)) (ltb (length taken) (header dir + dl dir taken)) refl refl refl

@@ -1,6 +1,6 @@
 -- A reader on a live port: what it has taken are the last bytes fed, and they begin with 21.
 use mathlib.Core.Path.{_≡_, refl, ap, sym, _∙_, subst}
-use mathlib.Core.Bool.{Bool, true, false}
+use mathlib.Core.Bool.{Bool, true, false, cond}
 use mathlib.Core.List.{List, [], _∷_, _++_, append-assoc}
 use Prim.Native.Nat.{ℕ, _+_, _-_, _<_}
 use native.Mathlib.Omega.{arith}
@@ -8,7 +8,6 @@ use borrow.Author.Tests.{eqb-true, eqb-false, ltb-true, ltb-false, le-leb}
 use lib.Dec.{eqb, ltb}
 use lib.ListN.{length, drop, getD, length-append, List·getD-append}
 use lib.Seq.{drop-at, getD-at}
-use Rattle.frame.specs.Pick.{pick}
 use Rattle.frame.specs.Frame.{header, opens, ends, dl}
 use Rattle.frame.specs.Reader.{answerTo, takenAfter, takenBy}
 use Rattle.frame.specs.Meaning.{Means}
@@ -31,7 +30,7 @@ held-none fed = record { front = fed; last = sym (mathlib.Core.List.append-nil f
 
 module _ (dir : Direction) (fed taken : List ℕ) (b : ℕ) (h : Held fed taken) where
   -- a byte that opens a frame, or is dropped
-  held-opened : (t : Bool) → eqb b opens ≡ t → Held (fed ++ b ∷ []) (pick t (b ∷ []) [])
+  held-opened : (t : Bool) → eqb b opens ≡ t → Held (fed ++ b ∷ []) (cond t (b ∷ []) [])
   held-opened true e = record { front = fed; last = refl; opened = λ s. eqb-true _ _ e }
   held-opened false e = held-none (fed ++ b ∷ [])
 

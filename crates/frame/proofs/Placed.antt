@@ -1,13 +1,12 @@
 -- What a raw write leaves: the buffer as it was where it refuses, and else the frame in its place and every other byte as it was.
 use mathlib.Core.Path.{_≡_, refl}
-use mathlib.Core.Bool.{Bool, true, false}
+use mathlib.Core.Bool.{Bool, true, false, cond}
 use mathlib.Core.List.{List, [], _∷_}
 use Prim.Native.Nat.{ℕ, _+_, _-_, _≤_}
 use native.Mathlib.Omega.{arith}
 use borrow.Author.Tests.{le-ltb}
 use lib.ListN.{length, take, drop, length-append, length-drop}
 use lib.Seq.{length-take-le, take-at, drop-at, take-append-seam, drop-append-seam, drop-drop}
-use Rattle.frame.specs.Pick.{pick}
 use Rattle.frame.specs.Refusal.{Line, ruled}
 use Rattle.frame.specs.Frame.{dataLimit, frameLength, frameOf}
 use Rattle.frame.specs.Raw.{placed, rawLines, rawSaid, rawLeft}
@@ -22,7 +21,7 @@ refused-keeps [] count n kept changed e = cc
 refused-keeps (l ∷ ls) count n kept changed e = go (l .applies) (refused-keeps ls count n kept changed) e
   where
     go : (t : Bool) → (ruled ls Refused (Bytes count) ≡ Refused n → ruled ls (λ m. kept) changed ≡ kept)
-        → pick t (Refused (l .number)) (ruled ls Refused (Bytes count)) ≡ Refused n → pick t kept (ruled ls (λ m. kept) changed) ≡ kept
+        → cond t (Refused (l .number)) (ruled ls Refused (Bytes count)) ≡ Refused n → cond t kept (ruled ls (λ m. kept) changed) ≡ kept
     go true rest h = refl
     go false rest h = rest h
 

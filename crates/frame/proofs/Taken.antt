@@ -1,6 +1,6 @@
 -- The definition's reader: where it can stand, and how bytes fill the places of a frame.
 use mathlib.Core.Path.{_≡_, refl, ap, sym, _∙_, subst}
-use mathlib.Core.Bool.{Bool, true, false}
+use mathlib.Core.Bool.{Bool, true, false, cond}
 use mathlib.Core.List.{List, [], _∷_, _++_, append-assoc, append-nil}
 use Prim.Native.Nat.{ℕ, suc, _+_, _-_, _≤_, _<_}
 use native.Mathlib.Omega.{arith}
@@ -8,7 +8,6 @@ use borrow.Author.Tests.{eq-eqb, ne-eqb, le-leb, lt-leb, leb-true, leb-false, eq
 use lib.Dec.{eqb, leb, ltb}
 use lib.ListN.{length, replicate, length-append, List·getD-eq-default, List·getD-append}
 use lib.Seq.{getD-at}
-use Rattle.frame.specs.Pick.{pick}
 use Rattle.frame.specs.Frame.{header, opens, ends, dl}
 use Rattle.frame.specs.Reader.{atEnd, answerTo, takenAfter, answers, takenBy}
 use Rattle.frame.specs.declared.direction.Direction.{Direction}
@@ -44,7 +43,7 @@ before-end dir taken b more s = go (leb (header dir) (length taken)) refl
 -- how a byte is taken: outside, inside, and at the end place
 module _ (dir : Direction) (taken : List ℕ) (b : ℕ) where
   pub taken-outside : length taken ≡ 0
-      → (answerTo dir taken b ≡ pick (eqb b opens) Waiting Noise) × (takenAfter dir taken b ≡ pick (eqb b opens) (b ∷ []) [])
+      → (answerTo dir taken b ≡ cond (eqb b opens) Waiting Noise) × (takenAfter dir taken b ≡ cond (eqb b opens) (b ∷ []) [])
   unfolding answerTo takenAfter
   taken-outside h = (rw (eq-eqb (length taken) 0 h), rw (eq-eqb (length taken) 0 h))
 
@@ -57,8 +56,8 @@ module _ (dir : Direction) (taken : List ℕ) (b : ℕ) where
       (rw (inside, before), rw (inside, before))
 
   pub taken-end : 0 < length taken → header dir + dl dir taken ≤ length taken
-      → (answerTo dir taken b ≡ pick (eqb b ends) (Frame (length taken + 1)) (pick (eqb b opens) (Broken (length taken)) (Broken (length taken + 1))))
-      × (takenAfter dir taken b ≡ pick (eqb b opens) (b ∷ []) [])
+      → (answerTo dir taken b ≡ cond (eqb b ends) (Frame (length taken + 1)) (cond (eqb b opens) (Broken (length taken)) (Broken (length taken + 1))))
+      × (takenAfter dir taken b ≡ cond (eqb b opens) (b ∷ []) [])
   unfolding answerTo takenAfter
   taken-end some full =
       let inside : eqb (length taken) 0 ≡ false = ne-eqb (length taken) 0 (omega arith) in
@@ -86,7 +85,7 @@ fills dir taken (x ∷ xs) ys some s =
 pub stands-after : (dir : Direction) (taken : List ℕ) (b : ℕ) → Stands dir taken → Stands dir (takenAfter dir taken b)
 stands-after dir taken b s = go (eqb (length taken) 0) (ltb (length taken) (header dir + dl dir taken)) refl refl
   where
-    few : (t : Bool) → Stands dir (pick t (b ∷ []) [])
+    few : (t : Bool) → Stands dir (cond t (b ∷ []) [])
     few true = omega (arith, header-least dir)
     few false = omega (arith, header-least dir)
 

@@ -4,7 +4,7 @@ use Prim.Native.Nat.{ℕ, zero, suc, _+_}
 use mathlib.Core.List.{List, [], _∷_, _++_}
 use lib.Dec.{eqb, ltb}
 use lib.ListN.{length, drop, replicate}
-use Rattle.frame.specs.Pick.{pick}
+use mathlib.Core.Bool.{cond}
 use Rattle.frame.specs.Refusal.{line, ruled}
 use Rattle.frame.specs.Reader.{answers, takenBy}
 use Rattle.frame.specs.Small.{answersOf, readerAfter}
@@ -52,7 +52,7 @@ kindNumber Pending = 3
 -- how many of the labels are of a kind
 unfoldable pub count : Kind → List Kind → ℕ
 count k [] = 0
-count k (l ∷ ls) = pick (eqb (kindNumber k) (kindNumber l)) 1 0 + count k ls
+count k (l ∷ ls) = cond (eqb (kindNumber k) (kindNumber l)) 1 0 + count k ls
 
 -- "the four totals": they count the labels
 abbrev pub totalsOf : Direction → List ℕ → Totals

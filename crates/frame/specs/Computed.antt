@@ -3,7 +3,7 @@ use Prim.Native.Nat.{ℕ, _+_, _-_}
 use mathlib.Core.List.{List}
 use lib.Dec.{eqb, leb}
 use lib.ListN.{length, getD}
-use Rattle.frame.specs.Pick.{pick}
+use mathlib.Core.Bool.{cond}
 use Rattle.frame.specs.Frame.{opens, ends}
 use Rattle.frame.specs.Capture.{count, settles, event}
 use Rattle.frame.specs.declared.reader.Fed.{Fed}
@@ -27,12 +27,12 @@ unfoldable pub stretchAt : ℕ → List ℕ → ℕ → Event
 stretchAt head capture at =
     let end = head + getD capture (at + (head - 1)) 0 in
     let left = length capture - at in
-    pick (eqb (getD capture at 0) opens)
-    (pick (leb left end)
+    cond (eqb (getD capture at 0) opens)
+    (cond (leb left end)
     (event at left Pending)
-    (pick (eqb (getD capture (at + end) 0) ends)
+    (cond (eqb (getD capture (at + end) 0) ends)
     (event at (end + 1) Frame)
-    (pick (eqb (getD capture (at + end) 0) opens) (event at end Broken) (event at (end + 1) Broken))))
+    (cond (eqb (getD capture (at + end) 0) opens) (event at end Broken) (event at (end + 1) Broken))))
     (event at 1 Noise)
 
 -- totals with the bytes of one event more

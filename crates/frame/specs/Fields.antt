@@ -1,10 +1,9 @@
 -- Document 01, 'Refusal numbers': "the zone, command, answer code and data that a frame brings".
 use Prim.Native.Nat.{ℕ, _+_, _-_}
-use mathlib.Core.Bool.{Bool, _&&_}
+use mathlib.Core.Bool.{Bool, _&&_, cond}
 use mathlib.Core.List.{List, []}
 use lib.Dec.{eqb, leb}
 use lib.ListN.{length, getD, take, drop}
-use Rattle.frame.specs.Pick.{pick}
 use Rattle.frame.specs.Frame.{opens, ends, header, frameLength, dl}
 use Rattle.frame.specs.declared.direction.Direction.{Direction}
 use Rattle.frame.specs.declared.direction.Direction.the-variants.{Command, Answer}
@@ -37,16 +36,16 @@ dataIn dir bytes = take (dl dir bytes) (drop (header dir) bytes)
 
 -- what a frame brings; bytes that are not one whole frame bring nothing
 abbrev pub fieldsOf : Direction → List ℕ → Brought
-fieldsOf dir bytes = pick (isFrame dir bytes) (brought.Frame (fieldsIn dir bytes)) brought.NotOneFrame
+fieldsOf dir bytes = cond (isFrame dir bytes) (brought.Frame (fieldsIn dir bytes)) brought.NotOneFrame
 
 abbrev pub dataOf : Direction → List ℕ → List ℕ
-dataOf dir bytes = pick (isFrame dir bytes) (dataIn dir bytes) []
+dataOf dir bytes = cond (isFrame dir bytes) (dataIn dir bytes) []
 
 -- "In a capture .. every byte belongs to exactly one of frame, broken, noise, pending": the bytes of such a stretch, by its place and
 -- length; none where they do not all lie in the capture
 unfoldable pub bytesAt : List ℕ → ℕ → ℕ → List ℕ
-bytesAt capture at n = pick (leb (at + n) (length capture)) (take n (drop at capture)) []
+bytesAt capture at n = cond (leb (at + n) (length capture)) (take n (drop at capture)) []
 
 -- "at the end place, 0D completes the frame": its bytes are the last of those kept; none where fewer are kept
 unfoldable pub lastOf : List ℕ → ℕ → List ℕ
-lastOf kept n = pick (leb n (length kept)) (drop (length kept - n) kept) []
+lastOf kept n = cond (leb n (length kept)) (drop (length kept - n) kept) []

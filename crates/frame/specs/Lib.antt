@@ -1,6 +1,5 @@
 -- What must be believed: what the rest uses, the frame and its reader, captures, what a frame brings, writing; then the
 -- promises. `Computed` need not be believed.
-pub mod Pick
 pub mod Refusal
 pub mod Letter
 pub mod Frame

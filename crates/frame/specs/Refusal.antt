@@ -1,10 +1,9 @@
 -- Document 01, 'Refusal numbers': how lines of that table give an answer.
 use Prim.Native.Nat.{ℕ, _-_}
-use mathlib.Core.Bool.{Bool, _||_}
+use mathlib.Core.Bool.{Bool, _||_, cond}
 use mathlib.Core.List.{List, [], _∷_}
 use lib.Dec.{ltb}
 use lib.ListN.{length}
-use Rattle.frame.specs.Pick.{pick}
 
 -- a line of the table: its number, and whether it applies
 pub record Line : Type 0 where
@@ -17,7 +16,7 @@ line n t = record { number = n; applies = t }
 -- "Each is given only when its line applies": the first line in the list that applies refuses with its number; where none does, accepted
 abbrev pub ruled {ℓ} : {A : Type ℓ} → List Line → (ℕ → A) → A → A
 ruled [] refused accepted = accepted
-ruled (l ∷ ls) refused accepted = pick (l .applies) (refused (l .number)) (ruled ls refused accepted)
+ruled (l ∷ ls) refused accepted = cond (l .applies) (refused (l .number)) (ruled ls refused accepted)
 
 -- 9: "the lent buffer has too few bytes from the given place, or the place is past its end"
 abbrev pub noRoom : List ℕ → ℕ → ℕ → Line

@@ -5,7 +5,7 @@ use Prim.Native.Nat.{ℕ, _+_}
 use mathlib.Core.List.{List, [], _∷_}
 use lib.Dec.{eqb, ltb}
 use lib.ListN.{length}
-use Rattle.frame.specs.Pick.{pick}
+use mathlib.Core.Bool.{cond}
 use Rattle.frame.specs.Frame.{header, opens, ends, dl}
 use Rattle.frame.specs.declared.direction.Direction.{Direction}
 use Rattle.frame.specs.declared.reader.ByteAnswer.{ByteAnswer}
@@ -26,15 +26,15 @@ stood dir place n answer = record { reader = record { direction = dir; place = p
 -- one byte, over the header's length
 unfoldable pub fedAt : Direction → ℕ → ℕ → ℕ → ℕ → Fed
 fedAt dir head place n b =
-    pick (eqb place 0)
-    (pick (eqb b opens) (stood dir 1 0 Waiting) (stood dir 0 0 Noise))
-    (pick (ltb place head)
-    (pick (eqb (place + 1) head) (stood dir (place + 1) b Waiting) (stood dir (place + 1) 0 Waiting))
-    (pick (ltb place (head + n))
+    cond (eqb place 0)
+    (cond (eqb b opens) (stood dir 1 0 Waiting) (stood dir 0 0 Noise))
+    (cond (ltb place head)
+    (cond (eqb (place + 1) head) (stood dir (place + 1) b Waiting) (stood dir (place + 1) 0 Waiting))
+    (cond (ltb place (head + n))
     (stood dir (place + 1) n Waiting)
-    (pick (eqb b ends)
+    (cond (eqb b ends)
     (stood dir 0 0 (Frame (head + n + 1)))
-    (pick (eqb b opens) (stood dir 1 0 (Broken (head + n))) (stood dir 0 0 (Broken (head + n + 1)))))))
+    (cond (eqb b opens) (stood dir 1 0 (Broken (head + n))) (stood dir 0 0 (Broken (head + n + 1)))))))
 
 abbrev pub fedOf : Reader → ℕ → Fed
 fedOf r b = fedAt (r .direction) (header (r .direction)) (r .place) (r .dl) b

@@ -1,7 +1,0 @@
--- Choosing by a test.
-use mathlib.Core.Bool.{Bool, true, false}
-
--- `pick t a b`: a where the test holds, else b
-abbrev pub pick {ℓ} : {A : Type ℓ} → Bool → A → A → A
-pick true a b = a
-pick false a b = b
