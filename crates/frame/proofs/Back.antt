@@ -1,5 +1,5 @@
 -- A raw frame that is written reads back, and a frame that is read is its own bytes again.
-use mathlib.Core.Path.{_≡_, refl, ap, sym, _∙_, subst}
+use mathlib.Core.Path.{_≡_, refl, ap, sym, _∙_}
 use mathlib.Core.Bool.{Bool, true, false, _||_, cond}
 use mathlib.Core.List.{List, [], _∷_, _++_, append-assoc}
 use Prim.Native.Nat.{ℕ, _+_, _-_, _≤_, _<_}
@@ -13,7 +13,7 @@ use Rattle.frame.specs.Frame.{opens, ends, dataLimit, header, frameLengt
 use Rattle.frame.specs.Reader.{takenAfter, answers, takenBy}
 use Rattle.frame.specs.Capture.{kindNumber, event, eventsFrom, firstOf}
 use Rattle.frame.specs.Fields.{isFrame, fieldsIn, dataIn, bytesAt, lastOf}
-use Rattle.frame.specs.Raw.{placed, rawSaid, rawLeft}
+use Rattle.frame.specs.Raw.{placed, rawAnswered, rawLeft}
 use Rattle.frame.specs.FramePromise.{Brings, Again, FramePromise}
 use Rattle.frame.specs.Computed.{stretchAt}
 use Rattle.frame.specs.declared.direction.Direction.{Direction}
@@ -30,7 +30,7 @@ use Rattle.frame.proofs.Header.{header-least, frame-length}
 use Rattle.frame.proofs.Taken.{fills, taken-outside, taken-end}
 use Rattle.frame.proofs.Events.{eventsOn, events-open, events-fill, events-frame, events-here, events-end}
 use Rattle.frame.proofs.Whole.{Whole, is-whole, whole-is}
-use Rattle.frame.proofs.Placed.{raw-left, raw-placed}
+use Rattle.frame.proofs.Placed.{raw-left, placed-length, placed-there}
 use Rattle.frame.proofs.Again.{frame-is, frame-fields, frame-data, data-length, frame-again}
 use Rattle.frame.proofs.Live.{live-frame}
 
@@ -116,9 +116,9 @@ module _ (dir : Direction) (zone command code : ℕ) (body : List ℕ) where
   }
 
 -- a write that was not refused had no data over the limit, and room
-accepted : (dir : Direction) (buf : List ℕ) (at : ℕ) (body : List ℕ) (n : ℕ) → rawSaid dir buf at body ≡ written.Bytes n
+accepted : (dir : Direction) (buf : List ℕ) (at : ℕ) (body : List ℕ) (n : ℕ) → rawAnswered dir buf at body ≡ written.Bytes n
     → (length body ≤ dataLimit) × (at + frameLength dir (length body) ≤ length buf) × (n ≡ frameLength dir (length body))
-unfolding rawSaid
+unfolding rawAnswered
 accepted dir buf at body n e = go (ltb dataLimit (length body)) (ltb (length buf) at) (ltb (length buf - at) (frameLength dir (length body))) refl refl refl e
   where
     Goal : Type 0
@@ -135,35 +135,46 @@ accepted dir buf at body n e = go (ltb dataLimit (length body)) (ltb (length buf
     go false false false f g h k =
         (ltb-false _ _ f, omega (arith, ltb-false (length buf) at g, ltb-false (length buf - at) (frameLength dir (length body)) h), cc)
 
-module _ (dir : Direction) (buf : List ℕ) (at zone command code : ℕ) (body : List ℕ) (n : ℕ) (e : rawSaid dir buf at body ≡ written.Bytes n) where
-  abbrev left : List ℕ
-  left = rawLeft dir buf at zone command code body
-
+-- a frame that stands at a place of a buffer is the event there, and its bytes are the frame
+module _ (dir : Direction) (buf : List ℕ) (at zone command code : ℕ) (body : List ℕ)
+    (room : at + length (frameOf dir zone command code body) ≤ length buf) where
   abbrev frame : List ℕ
   frame = frameOf dir zone command code body
 
-  written-there : drop at left ≡ frame ++ drop (at + length frame) buf
-  written-there =
-      let a = accepted dir buf at body n e in
-      ap (λ (l : List ℕ). drop at l) (raw-left dir buf at zone command code body (a .0) (a .1))
-      ∙ drop-at (take at buf) (frame ++ drop (at + length frame) buf) at (length-take-le at buf (omega arith))
+  pub placed-found : firstOf (eventsFrom dir (placed buf at frame) at) ≡ next.Event (event at (length frame) kind.Frame)
+  unfolding eventsFrom
+  placed-found =
+      let there : drop at (placed buf at frame) ≡ frame ++ drop (at + length frame) buf =
+      drop-at (take at buf) (frame ++ drop (at + length frame) buf) at (length-take-le at buf (omega arith)) in
+      ap firstOf (ap (λ (l : List ℕ). eventsOn dir at [] l) there ∙ frame-event dir zone command code body at (drop (at + length frame) buf))
+      ∙ ap (λ (m : ℕ). next.Event (event at m kind.Frame)) (sym (frame-length dir zone command code body))
+
+  pub placed-bytes : bytesAt (placed buf at frame) at (length frame) ≡ frame
+  unfolding bytesAt
+  placed-bytes =
+      rw (placed-length buf at frame room, le-leb (at + length frame) (length buf) room) (placed-there buf at frame room)
+
+module _ (dir : Direction) (buf : List ℕ) (at zone command code : ℕ) (body : List ℕ) (n : ℕ) (e : rawAnswered dir buf at body ≡ written.Bytes n) where
+  abbrev left : List ℕ
+  left = rawLeft dir buf at zone command code body
+
+  abbrev sent : List ℕ
+  sent = frameOf dir zone command code body
+
+  fits : at + length sent ≤ length buf
+  fits = rw (frame-length dir zone command code body) (accepted dir buf at body n e .1)
+
+  is-placed : left ≡ placed buf at sent
+  is-placed = let a = accepted dir buf at body n e in raw-left dir buf at zone command code body (a .0) (a .1)
+
+  long-as : n ≡ length sent
+  long-as = accepted dir buf at body n e .2 ∙ sym (frame-length dir zone command code body)
 
   raw-found : firstOf (eventsFrom dir left at) ≡ next.Event (event at n kind.Frame)
-  unfolding eventsFrom
-  raw-found =
-      let a = accepted dir buf at body n e in
-      ap firstOf (ap (λ (l : List ℕ). eventsOn dir at [] l) written-there ∙ frame-event dir zone command code body at (drop (at + length frame) buf))
-      ∙ ap (λ (m : ℕ). next.Event (event at m kind.Frame)) (sym (a .2))
+  raw-found = rw (is-placed, long-as) (placed-found dir buf at zone command code body fits)
 
   raw-brings : Brings dir (bytesAt left at n) zone command code body
-  unfolding bytesAt
-  raw-brings =
-      let a = accepted dir buf at body n e in
-      let p = raw-placed dir buf at zone command code body (a .0) (a .1) in
-      let there : take n (drop at left) ≡ frame = ap (λ (m : ℕ). take m (drop at left)) (a .2) ∙ p .1 in
-      subst (λ (l : List ℕ). Brings dir l zone command code body)
-      (sym (rw (le-leb (at + n) (length left) (omega (arith, p .2))) there))
-      (frame-brings dir zone command code body)
+  raw-brings = rw (is-placed, long-as, placed-bytes dir buf at zone command code body fits) (frame-brings dir zone command code body)
 
 -- a frame event of a capture: its bytes are one whole frame
 module _ (dir : Direction) (capture : List ℕ) (at n : ℕ) (within : at < length capture) where

@@ -8,7 +8,7 @@ use Rattle.frame.specs.Reader.{answerTo, takenAfter, answers, takenBy}
 use Rattle.frame.specs.Small.{fedAt, answersOf, fresh}
 use Rattle.frame.specs.Capture.{settled, labels, count, event, eventsTold, eventsFrom, countedOf}
 use Rattle.frame.specs.Fields.{isFrame, fieldsOf, dataOf}
-use Rattle.frame.specs.Raw.{rawSaid, rawLeft}
+use Rattle.frame.specs.Raw.{rawAnswered, rawLeft}
 use Rattle.frame.specs.declared.direction.Direction.the-variants.{Command, Answer}
 use Rattle.frame.specs.declared.reader.ByteAnswer.the-variants as answer
 use Rattle.frame.specs.declared.capture.Kind.the-variants.{Frame, Broken, Noise, Pending}
@@ -51,20 +51,20 @@ unfolding answersOf fedAt
 fed-by-byte = refl
 
 -- a raw answer with two data bytes, at place 1 of nine bytes: written, and found there
-pub raw-written : rawSaid Answer (replicate 9 7) 1 (0x06 ∷ 0x01 ∷ []) ≡ written.Bytes 8
-unfolding rawSaid
+pub raw-written : rawAnswered Answer (replicate 9 7) 1 (0x06 ∷ 0x01 ∷ []) ≡ written.Bytes 8
+unfolding rawAnswered
 raw-written = refl
 
 pub raw-bytes : rawLeft Answer (replicate 9 7) 1 0x01 0x0F 0x00 (0x06 ∷ 0x01 ∷ []) ≡ 7 ∷ 0x21 ∷ 0x01 ∷ 0x0F ∷ 0x00 ∷ 0x02 ∷ 0x06 ∷ 0x01 ∷ 0x0D ∷ []
 unfolding rawLeft frameOf
 raw-bytes = refl
 
-pub raw-no-room : rawSaid Answer (replicate 9 7) 2 (0x06 ∷ 0x01 ∷ []) ≡ written.Refused 9
-unfolding rawSaid
+pub raw-no-room : rawAnswered Answer (replicate 9 7) 2 (0x06 ∷ 0x01 ∷ []) ≡ written.Refused 9
+unfolding rawAnswered
 raw-no-room = refl
 
-pub raw-too-long : rawSaid Answer [] 1 (replicate 256 0) ≡ written.Refused 3
-unfolding rawSaid
+pub raw-too-long : rawAnswered Answer [] 1 (replicate 256 0) ≡ written.Refused 3
+unfolding rawAnswered
 raw-too-long = refl
 
 pub fields-found : fieldsOf Answer (0x21 ∷ 0x01 ∷ 0x0F ∷ 0x00 ∷ 0x02 ∷ 0x06 ∷ 0x01 ∷ 0x0D ∷ []) ≡ brought.Frame (record { zone = 1; command = 0x0F; answer = 0 })

@@ -1,3 +1,5 @@
+pub mod Ruled
+pub mod Rules
 pub mod Header
 pub mod Cases
 pub mod Labels

@@ -7,7 +7,7 @@ use Rattle.frame.specs.Frame.{header}
 use Rattle.frame.specs.Small.{fresh, fedOf}
 use Rattle.frame.specs.Capture.{partOf, eventsFrom, firstOf, countedOf, countedBy}
 use Rattle.frame.specs.Fields.{fieldsOf, dataOf, bytesAt, lastOf}
-use Rattle.frame.specs.Raw.{rawSaid, rawLeft}
+use Rattle.frame.specs.Raw.{rawAnswered, rawLeft}
 use Rattle.frame.specs.OneAnswer.{OneAnswer}
 use Rattle.frame.specs.declared.direction.Direction.{Direction}
 use Rattle.frame.specs.declared.reader.Reader.{Reader}
@@ -57,5 +57,5 @@ pub last-bytes-one : (kept : List ℕ) (n : ℕ) → OneAnswer (λ x. x ≡ last
 last-bytes-one kept n = one (lastOf kept n)
 
 pub write-raw-one : (dir : Direction) (buf : List ℕ) (at zone command code : ℕ) (body : List ℕ)
-    → OneAnswer (λ (x : Written × List ℕ). (x .0 ≡ rawSaid dir buf at body) × (x .1 ≡ rawLeft dir buf at zone command code body))
-write-raw-one dir buf at zone command code body = one-lent (rawSaid dir buf at body) (rawLeft dir buf at zone command code body)
+    → OneAnswer (λ (x : Written × List ℕ). (x .0 ≡ rawAnswered dir buf at body) × (x .1 ≡ rawLeft dir buf at zone command code body))
+write-raw-one dir buf at zone command code body = one-lent (rawAnswered dir buf at body) (rawLeft dir buf at zone command code body)

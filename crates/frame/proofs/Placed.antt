@@ -9,7 +9,7 @@ use lib.ListN.{length, take, drop, length-append, length-drop}
 use lib.Seq.{length-take-le, take-at, drop-at, take-append-seam, drop-append-seam, drop-drop}
 use Rattle.frame.specs.Refusal.{Line, ruled}
 use Rattle.frame.specs.Frame.{dataLimit, frameLength, frameOf}
-use Rattle.frame.specs.Raw.{placed, rawLines, rawSaid, rawLeft}
+use Rattle.frame.specs.Raw.{placed, rawLines, rawAnswered, rawLeft}
 use Rattle.frame.specs.declared.direction.Direction.{Direction}
 use Rattle.frame.specs.declared.raw.Written.the-variants.{Bytes, Refused}
 use Rattle.frame.proofs.Header.{frame-length}
@@ -26,8 +26,8 @@ refused-keeps (l ∷ ls) count n kept changed e = go (l .applies) (refused-keeps
     go false rest h = rest h
 
 module _ (dir : Direction) (buf : List ℕ) (at zone command answer : ℕ) (body : List ℕ) where
-  pub raw-refused : (n : ℕ) → rawSaid dir buf at body ≡ Refused n → rawLeft dir buf at zone command answer body ≡ buf
-  unfolding rawSaid rawLeft
+  pub raw-refused : (n : ℕ) → rawAnswered dir buf at body ≡ Refused n → rawLeft dir buf at zone command answer body ≡ buf
+  unfolding rawAnswered rawLeft
   raw-refused n e = refused-keeps (rawLines dir buf at body) _ n buf _ e
 
 module _ (buf : List ℕ) (at : ℕ) (bytes : List ℕ) (room : at + length bytes ≤ length buf) where
@@ -57,8 +57,8 @@ module _ (dir : Direction) (buf : List ℕ) (at zone command answer : ℕ) (body
   fits : at + length (frameOf dir zone command answer body) ≤ length buf
   fits = rw (frame-length dir zone command answer body) room
 
-  raw-said : rawSaid dir buf at body ≡ Bytes (frameLength dir (length body))
-  unfolding rawSaid
+  raw-said : rawAnswered dir buf at body ≡ Bytes (frameLength dir (length body))
+  unfolding rawAnswered
   raw-said = rw (le-ltb _ _ small, le-ltb _ _ within, le-ltb _ _ enough)
 
   pub raw-left : rawLeft dir buf at zone command answer body ≡ placed buf at (frameOf dir zone command answer body)
@@ -81,7 +81,7 @@ module _ (dir : Direction) (buf : List ℕ) (at zone command answer : ℕ) (body
       rw (raw-left, ← frame-length dir zone command answer body) (placed-after buf at (frameOf dir zone command answer body) fits)
 
   -- the answer is the frame's length, the frame stands at the place, and the buffer is as long as it was
-  pub raw-placed : (rawSaid dir buf at body ≡ Bytes (frameLength dir (length body)))
+  pub raw-placed : (rawAnswered dir buf at body ≡ Bytes (frameLength dir (length body)))
       × (take (frameLength dir (length body)) (drop at (rawLeft dir buf at zone command answer body)) ≡ frameOf dir zone command answer body)
       × (length (rawLeft dir buf at zone command answer body) ≡ length buf)
   raw-placed = (raw-said, raw-there, raw-length)

@@ -6,7 +6,7 @@ use native.Mathlib.Omega.{arith}
 use borrow.Author.Tests.{ne-eqb}
 use Rattle.frame.specs.Letter.{directionOf}
 use Rattle.frame.specs.Capture.{countedBy}
-use Rattle.frame.specs.Raw.{rawSaid, rawLeft}
+use Rattle.frame.specs.Raw.{rawAnswered, rawLeft}
 use Rattle.frame.specs.Numbers.{letterNumber, writtenNumber, writtenCount, countedNumber, countedTotals, noTotals}
 use Rattle.frame.specs.RefusalPromise.{RefusalPromise}
 use Rattle.frame.specs.declared.direction.Direction.{Direction}
@@ -27,10 +27,10 @@ zeros (counted.Totals t) refused = absurd (refused refl)
 zeros (counted.Refused n) refused = refl
 
 kept : (dir : Direction) (buf : List ℕ) (at zone command code : ℕ) (body : List ℕ)
-    → (writtenNumber (rawSaid dir buf at body) ≡ 0 → ⊥) → rawLeft dir buf at zone command code body ≡ buf
-kept dir buf at zone command code body refused = go (rawSaid dir buf at body) refl refused
+    → (writtenNumber (rawAnswered dir buf at body) ≡ 0 → ⊥) → rawLeft dir buf at zone command code body ≡ buf
+kept dir buf at zone command code body refused = go (rawAnswered dir buf at body) refl refused
   where
-    go : (w : Written) → rawSaid dir buf at body ≡ w → (writtenNumber w ≡ 0 → ⊥) → rawLeft dir buf at zone command code body ≡ buf
+    go : (w : Written) → rawAnswered dir buf at body ≡ w → (writtenNumber w ≡ 0 → ⊥) → rawLeft dir buf at zone command code body ≡ buf
     go (written.Bytes n) e r = absurd (r refl)
     go (written.Refused n) e r = raw-refused dir buf at zone command code body n e
 
@@ -47,6 +47,6 @@ refusal-promise = record {
   letter = other-letter;
   first = λ l. letter-first (directionOf l);
   kept = kept;
-  none = λ dir buf at body. none (rawSaid dir buf at body);
+  none = λ dir buf at body. none (rawAnswered dir buf at body);
   zero = λ letter capture. zeros (countedBy (directionOf letter) capture);
 }

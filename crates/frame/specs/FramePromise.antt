@@ -9,7 +9,7 @@ use Rattle.frame.specs.Frame.{dataLimit, dl, header, frameLength, frameO
 use Rattle.frame.specs.Reader.{answerTo, answers, takenBy}
 use Rattle.frame.specs.Capture.{event, eventsFrom, firstOf}
 use Rattle.frame.specs.Fields.{isFrame, answerKept, fieldsIn, dataIn, fieldsOf, dataOf, bytesAt, lastOf}
-use Rattle.frame.specs.Raw.{placed, rawSaid, rawLeft}
+use Rattle.frame.specs.Raw.{placed, rawAnswered, rawLeft}
 use Rattle.frame.specs.declared.direction.Direction.{Direction}
 use Rattle.frame.specs.declared.reader.ByteAnswer.the-variants as answer
 use Rattle.frame.specs.declared.capture.Kind.the-variants as kind
@@ -37,9 +37,9 @@ pub record FramePromise : Type 0 where
   pub outside : (dir : Direction) (zone command ac : ℕ) (body : List ℕ) → takenBy dir [] (frameOf dir zone command ac body) ≡ []
   pub brought : (dir : Direction) (zone command ac : ℕ) (body : List ℕ) → Brings dir (frameOf dir zone command ac body) zone command ac body
   -- so in the buffer: what was written at a place is the frame event there
-  pub found : (dir : Direction) (buf : List ℕ) (at zone command ac : ℕ) (body : List ℕ) (n : ℕ) → rawSaid dir buf at body ≡ written.Bytes n
+  pub found : (dir : Direction) (buf : List ℕ) (at zone command ac : ℕ) (body : List ℕ) (n : ℕ) → rawAnswered dir buf at body ≡ written.Bytes n
       → firstOf (eventsFrom dir (rawLeft dir buf at zone command ac body) at) ≡ next.Event (event at n kind.Frame)
-  pub placed : (dir : Direction) (buf : List ℕ) (at zone command ac : ℕ) (body : List ℕ) (n : ℕ) → rawSaid dir buf at body ≡ written.Bytes n
+  pub placed : (dir : Direction) (buf : List ℕ) (at zone command ac : ℕ) (body : List ℕ) (n : ℕ) → rawAnswered dir buf at body ≡ written.Bytes n
       → Brings dir (bytesAt (rawLeft dir buf at zone command ac body) at n) zone command ac body
   -- a frame event of a capture, or of any part of one
   pub captured : (dir : Direction) (capture : List ℕ) (at n : ℕ) → firstOf (eventsFrom dir capture at) ≡ next.Event (event at n kind.Frame)

@@ -11,6 +11,7 @@ pub mod Fields
 pub mod Raw
 pub mod Numbers
 pub mod OneAnswer
+pub mod RulePromise
 pub mod AnswerPromise
 pub mod ReaderPromise
 pub mod CutPromise

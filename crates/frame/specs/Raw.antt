@@ -22,8 +22,8 @@ abbrev pub rawLines : Direction → List ℕ → ℕ → List ℕ → List Line
 rawLines dir buf at body = tooLong body ∷ noRoom buf at (frameLength dir (length body)) ∷ []
 
 -- the answer: how many bytes were written, or the refusal
-unfoldable pub rawSaid : Direction → List ℕ → ℕ → List ℕ → Written
-rawSaid dir buf at body = ruled (rawLines dir buf at body) Refused (Bytes (frameLength dir (length body)))
+unfoldable pub rawAnswered : Direction → List ℕ → ℕ → List ℕ → Written
+rawAnswered dir buf at body = ruled (rawLines dir buf at body) Refused (Bytes (frameLength dir (length body)))
 
 -- the buffer after it
 unfoldable pub rawLeft : Direction → List ℕ → ℕ → ℕ → ℕ → ℕ → List ℕ → List ℕ

@@ -4,7 +4,7 @@ use mathlib.Core.List.{List}
 use Prim.Native.Nat.{ℕ}
 use Rattle.frame.specs.Letter.{directionOf}
 use Rattle.frame.specs.Capture.{countedBy}
-use Rattle.frame.specs.Raw.{rawSaid, rawLeft}
+use Rattle.frame.specs.Raw.{rawAnswered, rawLeft}
 use Rattle.frame.specs.Numbers.{letterNumber, writtenNumber, writtenCount, countedNumber, countedTotals, noTotals}
 use Rattle.frame.specs.declared.direction.Direction.{Direction}
 
@@ -13,8 +13,8 @@ pub record RefusalPromise : Type 0 where
   pub letter : (l : ℕ) → (l ≡ 0x43 → ⊥) → (l ≡ 0x52 → ⊥) → letterNumber (directionOf l) ≡ 12
   pub first : (l : ℕ) (capture : List ℕ) → letterNumber (directionOf l) ≡ 12 → countedNumber (countedBy (directionOf l) capture) ≡ 12
   pub kept : (dir : Direction) (buf : List ℕ) (at zone command ac : ℕ) (body : List ℕ)
-      → (writtenNumber (rawSaid dir buf at body) ≡ 0 → ⊥) → rawLeft dir buf at zone command ac body ≡ buf
+      → (writtenNumber (rawAnswered dir buf at body) ≡ 0 → ⊥) → rawLeft dir buf at zone command ac body ≡ buf
   pub none : (dir : Direction) (buf : List ℕ) (at : ℕ) (body : List ℕ)
-      → (writtenNumber (rawSaid dir buf at body) ≡ 0 → ⊥) → writtenCount (rawSaid dir buf at body) ≡ 0
+      → (writtenNumber (rawAnswered dir buf at body) ≡ 0 → ⊥) → writtenCount (rawAnswered dir buf at body) ≡ 0
   pub zero : (letter : ℕ) (capture : List ℕ)
       → (countedNumber (countedBy (directionOf letter) capture) ≡ 0 → ⊥) → countedTotals (countedBy (directionOf letter) capture) ≡ noTotals

@@ -6,7 +6,7 @@ ghost use Prim.Native.Nat.{_+_, _≤_};
 ghost use lib.ListN.{length, drop};
 ghost use lib.Seq.{paste};
 ghost use Rattle.frame.specs.Frame.{dataLimit, header, headerOf, frameLength, frameOf};
-ghost use Rattle.frame.specs.Raw.{rawSaid, rawLeft};
+ghost use Rattle.frame.specs.Raw.{rawAnswered, rawLeft};
 
 // What a write has done: how many bytes it wrote, or the number of its refusal.
 pub enum Written {
@@ -26,7 +26,7 @@ pub fn write_raw(
     answer: u8,
     body: &[u8],
 ) -> Written
-    ensures { λ r. ⌜ (r ≡ rawSaid direction (now (buf .entry)) at (now (body .entry))) × (now (buf .exit) ≡ rawLeft direction (now (buf .entry)) at zone command answer (now (body .entry))) ⌝ }
+    ensures { λ r. ⌜ (r ≡ rawAnswered direction (now (buf .entry)) at (now (body .entry))) × (now (buf .exit) ≡ rawLeft direction (now (buf .entry)) at zone command answer (now (body .entry))) ⌝ }
 {
     let count = body.len();
     if count > Reader::DATA_LIMIT as usize {

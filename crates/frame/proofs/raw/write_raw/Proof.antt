@@ -5,7 +5,7 @@ use borrow.Author.Tests.{lt-ltb, le-ltb}
 use borrow.Author.Needs.{needs}
 use lib.ListN.{length}
 use Rattle.frame.specs.Frame.{dataLimit, frameLength, frameOf}
-use Rattle.frame.specs.Raw.{rawSaid, rawLeft}
+use Rattle.frame.specs.Raw.{rawAnswered, rawLeft}
 use Rattle.frame.proofs.Header.{frame-length}
 use Rattle.frame.proofs.Tail.{tail-placed}
 use Rattle.frame.proofs.raw.write_raw.Statement.{statement}
@@ -15,11 +15,11 @@ cast-if1 : tie.Need-cast-if1
 cast-if1 c = search needs
 
 returns : tie.Need-returns
-unfolding rawSaid rawLeft
+unfolding rawAnswered rawLeft
 returns c = search (needs, lt-ltb)
 
 returns-2 : tie.Need-returns-2
-unfolding rawSaid rawLeft
+unfolding rawAnswered rawLeft
 returns-2 c = search (needs, lt-ltb, le-ltb)
 
 header-requires : tie.Need-header-requires
@@ -38,7 +38,7 @@ sub-if3 : tie.Need-sub-if3
 sub-if3 c = search needs
 
 returns-3 : tie.Need-returns-3
-unfolding rawSaid rawLeft
+unfolding rawAnswered rawLeft
 returns-3 c =
     let g = c .before .before .before .before .before .before .args in
     let small : length (g .body .now) ≤ dataLimit = search needs in
@@ -62,7 +62,7 @@ same-length : tie.Need-same-length
 same-length c = search needs
 
 returns-4 : tie.Need-returns-4
-unfolding rawSaid rawLeft
+unfolding rawAnswered rawLeft
 returns-4 c =
     let g = c .before .before .before .before .before .before .before .before .before .before .args in
     let n = frameLength (g .direction) (length (g .body .now)) in

@@ -1,0 +1,14 @@
+-- The bench frames, computed from the definitions.
+use mathlib.Core.Path.{refl}
+use Rattle.frame.specs.Reader.{answerTo, takenAfter, answers, takenBy}
+use Rattle.frame.specs.Capture.{eventsTold, eventsFrom}
+use Rattle.frame.specs.Fields.{isFrame, bytesAt}
+use Rattle.row.specs.Table.{table, firstRow}
+use Rattle.row.specs.Signed.{numberOf}
+use Rattle.message.specs.Content.{contentOf}
+use Rattle.message.specs.Message.{readOf, frameRead}
+use Rattle.message.specs.BenchPromise.{frames, BenchPromise}
+
+pub bench-promise : BenchPromise
+unfolding answerTo takenAfter answers takenBy eventsTold eventsFrom isFrame bytesAt table firstRow numberOf contentOf readOf frameRead frames
+bench-promise = record { holds = refl }

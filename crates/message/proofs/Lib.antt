@@ -1,0 +1,14 @@
+pub mod Judges
+pub mod Readings
+pub mod Writes
+mod Tests
+mod Tidy
+mod Codes
+mod Says
+mod Written
+pub mod Forms
+pub mod Witness
+pub mod Trip
+pub mod Order
+pub mod Bench
+pub mod OneAnswer

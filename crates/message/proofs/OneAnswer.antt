@@ -1,0 +1,61 @@
+-- Each public function's contract admits one answer: its result, and the lent bytes after it where it has any.
+use mathlib.Core.Path.{_≡_}
+use mathlib.Core.List.{List}
+use Prim.Native.Nat.{ℕ}
+use lib.IntN.{ℤ}
+use Rattle.frame.specs.Fields.{dataOf}
+use Rattle.frame.specs.OneAnswer.{OneAnswer}
+use Rattle.frame.specs.declared.direction.Direction.{Direction}
+use Rattle.frame.specs.declared.raw.Written.{Written}
+use Rattle.frame.proofs.OneAnswer.{one, one-lent}
+use Rattle.row.specs.Profile.{profileOf, letterOf, zonesOf}
+use Rattle.row.specs.Table.{rowOf}
+use Rattle.row.specs.Signed.{numberOf, codeOf, plainCodeOf}
+use Rattle.row.specs.declared.profile.Profile.{Profile}
+use Rattle.message.specs.Judge.{judgedOf}
+use Rattle.message.specs.Message.{readOf, frameRead, deniedIn}
+use Rattle.message.specs.Write.{messageAnswered, messageLeft, fieldsAnswered, fieldsLeft}
+use Rattle.message.specs.declared.read.Message.{Message}
+
+pub judge-one : (profile : Profile) (dir : Direction) (zone command : ℕ) (body : List ℕ) → OneAnswer (λ x. x ≡ judgedOf profile dir zone command body)
+judge-one profile dir zone command body = one (judgedOf profile dir zone command body)
+
+pub read-message-one : (profile : Profile) (dir : Direction) (zone command ac : ℕ) (body : List ℕ) → OneAnswer (λ x. x ≡ readOf profile dir zone command ac body)
+read-message-one profile dir zone command ac body = one (readOf profile dir zone command ac body)
+
+pub read-frame-one : (profile : Profile) (dir : Direction) (bytes : List ℕ) → OneAnswer (λ x. x ≡ frameRead profile dir bytes)
+read-frame-one profile dir bytes = one (frameRead profile dir bytes)
+
+pub denied-data-one : (profile : Profile) (dir : Direction) (bytes : List ℕ) → OneAnswer (λ x. x ≡ deniedIn (frameRead profile dir bytes) (dataOf dir bytes))
+denied-data-one profile dir bytes = one (deniedIn (frameRead profile dir bytes) (dataOf dir bytes))
+
+pub write-message-one : (profile : Profile) (buf : List ℕ) (at : ℕ) (m : Message) (body : List ℕ)
+    → OneAnswer (λ (x : Written × List ℕ). (x .0 ≡ messageAnswered profile buf at m body) × (x .1 ≡ messageLeft profile buf at m body))
+write-message-one profile buf at m body = one-lent (messageAnswered profile buf at m body) (messageLeft profile buf at m body)
+
+pub write-fields-one : (profile : Profile) (dir : Direction) (buf : List ℕ) (at zone command ac : ℕ) (body : List ℕ)
+    → OneAnswer (λ (x : Written × List ℕ). (x .0 ≡ fieldsAnswered profile dir buf at zone command ac body) × (x .1 ≡ fieldsLeft profile dir buf at zone command ac body))
+write-fields-one profile dir buf at zone command ac body =
+    one-lent (fieldsAnswered profile dir buf at zone command ac body) (fieldsLeft profile dir buf at zone command ac body)
+
+-- of the rows below
+pub profile-of-one : (letter : ℕ) → OneAnswer (λ x. x ≡ profileOf letter)
+profile-of-one letter = one (profileOf letter)
+
+pub letter-of-one : (profile : Profile) → OneAnswer (λ x. x ≡ letterOf profile)
+letter-of-one profile = one (letterOf profile)
+
+pub zones-of-one : (profile : Profile) → OneAnswer (λ x. x ≡ zonesOf profile)
+zones-of-one profile = one (zonesOf profile)
+
+pub find-row-one : (profile : Profile) (command : ℕ) → OneAnswer (λ x. x ≡ rowOf profile command)
+find-row-one profile command = one (rowOf profile command)
+
+pub number-of-one : (code : ℕ) → OneAnswer (λ x. x ≡ numberOf code)
+number-of-one code = one (numberOf code)
+
+pub code-of-one : (number : ℤ) → OneAnswer (λ x. x ≡ codeOf number)
+code-of-one number = one (codeOf number)
+
+pub plain-code-of-one : (number : ℤ) → OneAnswer (λ x. x ≡ plainCodeOf number)
+plain-code-of-one number = one (plainCodeOf number)

@@ -1,0 +1,334 @@
+-- A message that is written reads back as itself, and a frame that reads as a message is written back to the same bytes.
+use mathlib.Core.Path.{_≡_, refl, ap, sym, _∙_, subst}
+use mathlib.Core.Bool.{Bool, true, false, cond, not, _||_, or-true}
+use mathlib.Core.List.{List, [], _∷_, _++_}
+use Prim.Native.Nat.{ℕ, _+_, _-_, _≤_}
+use native.Mathlib.Omega.{arith}
+use borrow.Author.Tests.{ltb-false, le-ltb, not-false, eqb-true}
+use lib.Dec.{eqb, ltb}
+use lib.ListN.{length}
+use Rattle.frame.specs.Refusal.{Line, line, noRoom}
+use Rattle.frame.specs.Frame.{frameOf}
+use Rattle.frame.specs.Raw.{placed, tooLong}
+use Rattle.frame.specs.Fields.{isFrame, fieldsIn, dataIn, dataOf, answerKept, bytesAt}
+use Rattle.frame.specs.Capture.{event, eventsFrom, firstOf}
+use Rattle.frame.specs.declared.direction.Direction.{Direction}
+use Rattle.frame.specs.declared.fields.Fields.{Fields}
+use Rattle.frame.specs.declared.capture.Kind.the-variants as kind
+use Rattle.frame.specs.declared.capture.Next.the-variants as next
+use Rattle.frame.specs.declared.direction.Direction.the-variants.{Command, Answer}
+use Rattle.frame.specs.declared.raw.Written.the-variants as written
+use Rattle.frame.proofs.Ruled.{refuses, was-accepted, accepted-by, pass-first, pass-both, pass-append, append-pass}
+use Rattle.frame.proofs.Back.{frame-promise, placed-found, placed-bytes}
+use Rattle.frame.proofs.Again.{frame-again}
+use Rattle.row.specs.Table.{rowOf}
+use Rattle.row.specs.declared.profile.Profile.{Profile}
+use Rattle.row.specs.declared.table.Row.{Row}
+use Rattle.row.specs.declared.table.Found.{Found}
+use Rattle.row.specs.declared.table.Found.the-variants as found
+use Rattle.message.specs.Judge.{isMissing, rowIn, profileZone, noRow, rowZone, wrongLength, wrongValue, rowLines, judgeLines}
+use Rattle.message.specs.Content as content
+use Rattle.message.specs.Message.{isDenial, wrongCode, said, denial, readLines, messageOf, readOf, deniedData, fromReading, frameRead}
+use Rattle.message.specs.Write.{saidLines, saidData, notDenied, messageDirection, writeLines, messageFrame, writeAnswered, writeLeft, messageAnswered, messageLeft}
+use Rattle.message.specs.MessagePromise.{ReadsAs, MessagePromise}
+use Rattle.message.specs.declared.content.Content.{Content}
+use Rattle.message.specs.declared.content.Content.the-variants.{Request, Up, Down, On, Off, Toggle, LevellerOff, Number, Input}
+use Rattle.message.specs.declared.content.Encoded.{Encoded}
+use Rattle.message.specs.declared.content.Encoded.the-variants.{One, Two, NoCode}
+use Rattle.message.specs.declared.read.Denial.{Denial}
+use Rattle.message.specs.declared.read.Message.{Message}
+use Rattle.message.specs.declared.read.Message.the-variants as message
+use Rattle.message.specs.declared.read.Reading.{Reading}
+use Rattle.message.specs.declared.read.Reading.the-variants as reading
+use Rattle.message.specs.declared.read.FrameReading.the-variants as frame
+use Rattle.message.proofs.Forms.{form-promise}
+use Rattle.message.proofs.Readings.{frame-some}
+
+-- a row that is not missing is found
+found-there : (f : Found) → isMissing f ≡ false → f ≡ found.Row (rowIn f)
+found-there (found.Row row) e = refl
+found-there found.NoRow e = cc
+
+-- the data of a form are as many as its size
+form-size : (dir : Direction) (row : Row) (c : Content) → content.isForm dir row c ≡ true → length (content.encodedData (content.encodedOf row c)) ≡ content.sizeOf c
+unfolding content.isForm
+form-size dir row Request e = refl
+form-size dir row Up e = refl
+form-size dir row Down e = refl
+form-size dir row On e = refl
+form-size dir row Off e = refl
+form-size dir row Toggle e = refl
+form-size dir row LevellerOff e = refl
+form-size dir row (Number z) e = go (content.numberCode row z) e
+  where
+    go : (x : Encoded) → content.codeFits dir row x ≡ true → length (content.encodedData x) ≡ 1
+    go (One c) f = refl
+    go (Two b c) f = cc
+    go NoCode f = cc
+form-size dir row (Input input on) e = refl
+
+-- lines of zone and row are shared; then length and value of the data, or length and form of what is said
+module _ (profile : Profile) (dir : Direction) (zone command : ℕ) where
+  abbrev there : Row
+  there = rowIn (rowOf profile command)
+
+  -- the lines after the first three
+  module _ (l v : Line) where
+    abbrev five : List Line
+    five = profileZone profile zone ∷ noRow profile command ∷ rowZone there zone ∷ l ∷ v ∷ []
+
+    record Five : Type 0 where
+      zones : refuses (rowLines profile zone command) ≡ false
+      row : isMissing (rowOf profile command) ≡ false
+      long : l .applies ≡ false
+      value : v .applies ≡ false
+
+    parts : refuses five ≡ false → Five
+    parts e =
+        let both = pass-append (rowLines profile zone command) (l ∷ v ∷ []) e in
+        let rest = pass-first (profileZone profile zone) (noRow profile command ∷ rowZone there zone ∷ []) (both .0) .1 in
+        let four = pass-first l (v ∷ []) (both .1) in
+        record {
+          zones = both .0;
+          row = pass-first (noRow profile command) (rowZone there zone ∷ []) rest .0;
+          long = four .0;
+          value = pass-first v [] (four .1) .0;
+        }
+
+  together : (l v : Line) → refuses (rowLines profile zone command) ≡ false → l .applies ≡ false → v .applies ≡ false
+      → refuses (five l v) ≡ false
+  together l v e f g = append-pass (rowLines profile zone command) (l ∷ v ∷ []) e (pass-both l (v ∷ []) f (pass-both v [] g refl))
+
+  -- what is said has data that are judged legal, and say it
+  pub say-judge : (c : Content) → refuses (saidLines profile dir zone command c) ≡ false
+      → (refuses (judgeLines profile dir zone command (saidData profile command c)) ≡ false) × (content.contentOf dir there (saidData profile command c) ≡ c)
+  say-judge c e =
+      let p = parts (wrongLength dir there (content.sizeOf c)) (line 4 (not (content.isForm dir there c))) e in
+      let w = form-promise .written profile command there dir c (found-there (rowOf profile command) (p .row)) (not-false _ (p .value)) (not-false _ (p .long)) in
+      let body = saidData profile command c in
+      (together (wrongLength dir there (length body)) (wrongValue dir there body) (p .zones) (rw (w .0 .long)) (rw (w .0 .value)), w .2)
+
+  -- data that are judged legal say something whose data they are
+  pub judge-say : (body : List ℕ) → refuses (judgeLines profile dir zone command body) ≡ false
+      → (refuses (saidLines profile dir zone command (content.contentOf dir there body)) ≡ false) × (saidData profile command (content.contentOf dir there body) ≡ body)
+  judge-say body e =
+      let p = parts (wrongLength dir there (length body)) (wrongValue dir there body) e in
+      let c = content.contentOf dir there body in
+      let r = form-promise .read profile command there dir body (found-there (rowOf profile command) (p .row)) (record { long = not-false _ (p .long); value = not-false _ (p .value) }) in
+      let size : length body ≡ content.sizeOf c = ap length (sym (r .1)) ∙ form-size dir there c (r .0) in
+      (together (wrongLength dir there (content.sizeOf c)) (line 4 (not (content.isForm dir there c))) (p .zones) (rw (← size) (p .long)) (rw (r .0)), r .1)
+
+-- a write that was accepted: its lines passed, there was room, and the bytes stand at the place; and the reverse
+module _ (lines : List Line) (buf : List ℕ) (at : ℕ) (bytes : List ℕ) where
+  bytes-differ : (n k : ℕ) → written.Refused k ≡ written.Bytes n → ⊥
+  bytes-differ n k e = let z : _≡_ {A = ℕ} 0 1 = cc in omega arith
+
+  abbrev all : List Line
+  all = lines ++ noRoom buf at (length bytes) ∷ []
+
+  record Accepted (n : ℕ) : Type 0 where
+    passed : refuses lines ≡ false
+    room : at + length bytes ≤ length buf
+    long : n ≡ length bytes
+    left : writeLeft lines buf at bytes ≡ placed buf at bytes
+
+  accepted-write : (n : ℕ) → writeAnswered lines buf at bytes ≡ written.Bytes n → Accepted n
+  unfolding writeAnswered writeLeft
+  accepted-write n e =
+      let w = was-accepted all written.Refused (written.Bytes (length bytes)) (written.Bytes n) e (bytes-differ n) in
+      let p = pass-append lines (noRoom buf at (length bytes) ∷ []) (w .0) in
+      let room = go (ltb (length buf) at) (ltb (length buf - at) (length bytes)) refl refl (pass-first (noRoom buf at (length bytes)) [] (p .1) .0) in
+      record { passed = p .0; room = room; long = same (w .1); left = accepted-by all (λ m. buf) (placed buf at bytes) (w .0) }
+    where
+      same : written.Bytes (length bytes) ≡ written.Bytes n → n ≡ length bytes
+      same f = cc
+
+      go : (t u : Bool) → ltb (length buf) at ≡ t → ltb (length buf - at) (length bytes) ≡ u → t || u ≡ false → at + length bytes ≤ length buf
+      go true u g h k = let z : _≡_ {A = ℕ} 0 1 = cc in absurd (omega arith)
+      go false true g h k = let z : _≡_ {A = ℕ} 0 1 = cc in absurd (omega arith)
+      go false false g h k = omega (arith, ltb-false (length buf) at g, ltb-false (length buf - at) (length bytes) h)
+
+  write-accepted : refuses lines ≡ false → at + length bytes ≤ length buf
+      → (writeAnswered lines buf at bytes ≡ written.Bytes (length bytes)) × (writeLeft lines buf at bytes ≡ placed buf at bytes)
+  unfolding writeAnswered writeLeft
+  write-accepted e room =
+      let within : at ≤ length buf = omega arith in
+      let enough : length bytes ≤ length buf - at = omega arith in
+      let last : noRoom buf at (length bytes) .applies ≡ false = rw (le-ltb (length buf) at within, le-ltb (length buf - at) (length bytes) enough) in
+      let pass = append-pass lines (noRoom buf at (length bytes) ∷ []) e (pass-both (noRoom buf at (length bytes)) [] last refl) in
+      (accepted-by all written.Refused _ pass, accepted-by all (λ m. buf) _ pass)
+
+-- a frame of fields and data, read
+frame-reads : (profile : Profile) (dir : Direction) (zone command ac : ℕ) (body : List ℕ)
+    → frameRead profile dir (frameOf dir zone command ac body) ≡ fromReading (readOf profile dir zone command (answerKept dir ac) body)
+frame-reads profile dir zone command ac body =
+    let b = frame-promise .brought dir zone command ac body in
+    frame-some profile dir (frameOf dir zone command ac body) (record { zone = zone; command = command; answer = answerKept dir ac }) (b .head)
+    ∙ ap (λ (l : List ℕ). fromReading (readOf profile dir zone command (answerKept dir ac) l)) (b .load)
+
+-- what passes is read as the message it is
+read-passed : (profile : Profile) (dir : Direction) (zone command ac : ℕ) (body : List ℕ) → refuses (readLines profile dir zone command ac body) ≡ false
+    → readOf profile dir zone command ac body ≡ reading.Message (messageOf profile dir zone command ac body)
+unfolding readOf
+read-passed profile dir zone command ac body e = accepted-by (readLines profile dir zone command ac body) reading.Refused _ e
+
+denied-lines : (ac : ℕ) (body : List ℕ) → refuses (notDenied ac ∷ tooLong body ∷ []) ≡ false → (isDenial ac ≡ true) × (refuses (tooLong body ∷ []) ≡ false)
+denied-lines ac body e = let p = pass-first (notDenied ac) (tooLong body ∷ []) e in (not-false _ (p .0), p .1)
+
+module _ (profile : Profile) where
+  reads : (m : Message) (body : List ℕ) → refuses (writeLines profile m body) ≡ false → frameRead profile (messageDirection m) (messageFrame profile m body) ≡ frame.Message m
+  reads (message.Command s) body e =
+      let j = say-judge profile Command (s .zone) (s .command) (s .content) e in
+      let d = saidData profile (s .command) (s .content) in
+      frame-reads profile Command (s .zone) (s .command) 0 d
+      ∙ ap fromReading (read-passed profile Command (s .zone) (s .command) 0 d (j .0))
+      ∙ ap (λ (c : Content). frame.Message (message.Command (record { zone = s .zone; command = s .command; content = c }))) (j .1)
+  reads (message.Status s) body e =
+      let j = say-judge profile Answer (s .zone) (s .command) (s .content) e in
+      let d = saidData profile (s .command) (s .content) in
+      frame-reads profile Answer (s .zone) (s .command) 0 d
+      ∙ ap fromReading (read-passed profile Answer (s .zone) (s .command) 0 d (j .0))
+      ∙ ap (λ (c : Content). frame.Message (message.Status (record { zone = s .zone; command = s .command; content = c }))) (j .1)
+  reads (message.Denied d) body e =
+      let p = denied-lines (d .answer) body e in
+      let is : messageOf profile Answer (d .zone) (d .command) (d .answer) body ≡ message.Denied d = rw (p .0) in
+      frame-reads profile Answer (d .zone) (d .command) (d .answer) body
+      ∙ ap fromReading (read-passed profile Answer (d .zone) (d .command) (d .answer) body (rw (p .0, or-true) (p .1)) ∙ ap reading.Message is)
+
+  loads : (m : Message) (body : List ℕ) → deniedData m (dataOf (messageDirection m) (messageFrame profile m body)) ≡ deniedData m body
+  loads (message.Command s) body = refl
+  loads (message.Status s) body = refl
+  loads (message.Denied d) body = frame-promise .brought Answer (d .zone) (d .command) (d .answer) body .load
+
+  -- the frame of a message stands in the buffer as a frame
+  stands : (m : Message) (body buf : List ℕ) (at : ℕ) → at + length (messageFrame profile m body) ≤ length buf
+      → (firstOf (eventsFrom (messageDirection m) (placed buf at (messageFrame profile m body)) at) ≡ next.Event (event at (length (messageFrame profile m body)) kind.Frame))
+      × (bytesAt (placed buf at (messageFrame profile m body)) at (length (messageFrame profile m body)) ≡ messageFrame profile m body)
+  stands (message.Command s) body buf at room =
+      let d = saidData profile (s .command) (s .content) in
+      (placed-found Command buf at (s .zone) (s .command) 0 d room, placed-bytes Command buf at (s .zone) (s .command) 0 d room)
+  stands (message.Status s) body buf at room =
+      let d = saidData profile (s .command) (s .content) in
+      (placed-found Answer buf at (s .zone) (s .command) 0 d room, placed-bytes Answer buf at (s .zone) (s .command) 0 d room)
+  stands (message.Denied d) body buf at room =
+      (placed-found Answer buf at (d .zone) (d .command) (d .answer) body room, placed-bytes Answer buf at (d .zone) (d .command) (d .answer) body room)
+
+  module _ (buf : List ℕ) (at : ℕ) (m : Message) (body : List ℕ) (n : ℕ) (e : messageAnswered profile buf at m body ≡ written.Bytes n) where
+    abbrev bytes : List ℕ
+    bytes = messageFrame profile m body
+
+    taken : Accepted (writeLines profile m body) buf at bytes n
+    unfolding messageAnswered
+    taken = accepted-write (writeLines profile m body) buf at bytes n e
+
+    left-is : messageLeft profile buf at m body ≡ placed buf at bytes
+    unfolding messageLeft
+    left-is = taken .left
+
+    found-again : firstOf (eventsFrom (messageDirection m) (messageLeft profile buf at m body) at) ≡ next.Event (event at n kind.Frame)
+    found-again = rw (left-is, taken .long) (stands m body buf at (taken .room) .0)
+
+    reads-again : ReadsAs profile (messageDirection m) (bytesAt (messageLeft profile buf at m body) at n) m body
+    reads-again =
+        subst (λ (l : List ℕ). ReadsAs profile (messageDirection m) l m body)
+        (sym (ap (λ (l : List ℕ). bytesAt l at n) left-is ∙ ap (λ (k : ℕ). bytesAt (placed buf at bytes) at k) (taken .long) ∙ stands m body buf at (taken .room) .1))
+        (record { message = reads m body (taken .passed); load = loads m body })
+
+-- what is read as a message, written again
+record Again (profile : Profile) (dir : Direction) (zone command ac : ℕ) (body : List ℕ) (m : Message) : Type 0 where
+  way : messageDirection m ≡ dir
+  lines : refuses (writeLines profile m body) ≡ false
+  frame : messageFrame profile m body ≡ frameOf dir zone command ac body
+
+again-of : (profile : Profile) (dir : Direction) (zone command ac : ℕ) (body : List ℕ) → refuses (readLines profile dir zone command ac body) ≡ false
+    → Again profile dir zone command ac body (messageOf profile dir zone command ac body)
+unfolding frameOf
+again-of profile Command zone command ac body e =
+    let j = judge-say profile Command zone command body e in
+    record { way = refl; lines = j .0; frame = ap (λ (l : List ℕ). frameOf Command zone command ac l) (j .1) }
+again-of profile Answer zone command ac body e = go (isDenial ac) refl (pass-first (wrongCode ac) (cond (isDenial ac) (tooLong body ∷ []) (judgeLines profile Answer zone command body)) e)
+  where
+    zero-code : (t : Bool) → not (t || false) ≡ false → t ≡ true
+    zero-code true f = refl
+    zero-code false f = cc
+
+    go : (t : Bool) → isDenial ac ≡ t → (not (eqb ac 0x00 || isDenial ac) ≡ false) × (refuses (cond t (tooLong body ∷ []) (judgeLines profile Answer zone command body)) ≡ false)
+        → Again profile Answer zone command ac body (cond t (message.Denied (denial zone command ac)) (message.Status (said profile Answer zone command body)))
+    go true d p = record { way = refl; lines = pass-both (notDenied ac) (tooLong body ∷ []) (rw d) (p .1); frame = refl }
+    go false d p =
+        let j = judge-say profile Answer zone command body (p .1) in
+        let code : ac ≡ 0 = eqb-true ac 0 (zero-code (eqb ac 0x00) (rw d at (p .0))) in
+        record {
+          way = refl;
+          lines = j .0;
+          frame = ap (λ (l : List ℕ). frameOf Answer zone command 0 l) (j .1) ∙ ap (λ (k : ℕ). frameOf Answer zone command k body) (sym code);
+        }
+
+-- the fields and data of bytes that read as a message
+module _ (profile : Profile) (dir : Direction) (bytes : List ℕ) (m : Message) (e : frameRead profile dir bytes ≡ frame.Message m) where
+  abbrev f : Fields
+  f = fieldsIn dir bytes
+
+  abbrev body : List ℕ
+  body = dataIn dir bytes
+
+  whole : (isFrame dir bytes ≡ true) × (readOf profile dir (f .zone) (f .command) (f .answer) body ≡ reading.Message m)
+  unfolding frameRead
+  whole = go (isFrame dir bytes) e
+    where
+      taken : (r : Reading) → fromReading r ≡ frame.Message m → r ≡ reading.Message m
+      taken (reading.Message x) g = cc
+      taken (reading.Refused k) g = cc
+
+      go : (t : Bool) → cond t (fromReading (readOf profile dir (f .zone) (f .command) (f .answer) body)) frame.NotOneFrame ≡ frame.Message m
+          → (t ≡ true) × (readOf profile dir (f .zone) (f .command) (f .answer) body ≡ reading.Message m)
+      go true g = (refl, taken (readOf profile dir (f .zone) (f .command) (f .answer) body) g)
+      go false g = (cc, cc)
+
+  goes : Again profile dir (f .zone) (f .command) (f .answer) body m
+  unfolding readOf
+  goes =
+      let lines = readLines profile dir (f .zone) (f .command) (f .answer) body in
+      let w = was-accepted lines reading.Refused _ (reading.Message m) (whole .1) (λ k g. differs k g) in
+      subst (λ (x : Message). Again profile dir (f .zone) (f .command) (f .answer) body x) (same (w .1)) (again-of profile dir (f .zone) (f .command) (f .answer) body (w .0))
+    where
+      differs : (k : ℕ) → reading.Refused k ≡ reading.Message m → ⊥
+      differs k g = let z : _≡_ {A = ℕ} 0 1 = cc in omega arith
+
+      same : reading.Message (messageOf profile dir (f .zone) (f .command) (f .answer) body) ≡ reading.Message m → messageOf profile dir (f .zone) (f .command) (f .answer) body ≡ m
+      same g = cc
+
+  data-is : dataOf dir bytes ≡ body
+  data-is = rw (whole .0)
+
+  bytes-are : messageFrame profile m body ≡ bytes
+  bytes-are = goes .frame ∙ sym (frame-again dir bytes (whole .0))
+
+  module _ (buf : List ℕ) (at : ℕ) (room : at + length bytes ≤ length buf) where
+    put : (writeAnswered (writeLines profile m body) buf at (messageFrame profile m body) ≡ written.Bytes (length (messageFrame profile m body)))
+        × (writeLeft (writeLines profile m body) buf at (messageFrame profile m body) ≡ placed buf at (messageFrame profile m body))
+    put = write-accepted (writeLines profile m body) buf at (messageFrame profile m body) (goes .lines) (rw bytes-are room)
+
+    said-again : messageAnswered profile buf at m (dataOf dir bytes) ≡ written.Bytes (length bytes)
+    unfolding messageAnswered
+    said-again = rw data-is (put .0 ∙ ap (λ (l : List ℕ). written.Bytes (length l)) bytes-are)
+
+    left-again : messageLeft profile buf at m (dataOf dir bytes) ≡ placed buf at bytes
+    unfolding messageLeft
+    left-again = rw data-is (put .1 ∙ ap (λ (l : List ℕ). placed buf at l) bytes-are)
+
+-- the write of a denied message does not ask the profile
+denied-again : (profile other : Profile) (buf : List ℕ) (at : ℕ) (d : Denial) (body : List ℕ) (n : ℕ) → messageAnswered profile buf at (message.Denied d) body ≡ written.Bytes n
+    → ReadsAs other Answer (bytesAt (messageLeft profile buf at (message.Denied d) body) at n) (message.Denied d) body
+unfolding messageAnswered messageLeft
+denied-again profile other buf at d body n e = reads-again other buf at (message.Denied d) body n e
+
+pub message-promise : MessagePromise
+message-promise = record {
+  found = found-again;
+  back = reads-again;
+  denied = denied-again;
+  way = λ profile dir bytes m e. goes profile dir bytes m e .way;
+  said = said-again;
+  again = left-again;
+}

@@ -1,0 +1,13 @@
+-- What must be believed: the lines of the refusals, what data say, messages read and written; then the promises. `Passed` need
+-- not be believed.
+pub mod Judge
+pub mod Content
+pub mod Message
+pub mod Write
+pub mod Numbers
+pub mod OrderPromise
+pub mod RefusalPromise
+pub mod FormPromise
+pub mod MessagePromise
+pub mod BenchPromise
+pub mod Passed

@@ -1,0 +1,94 @@
+-- Document 01, 'Refusal numbers': "A message is read from the zone, command, answer code and data that a frame brings."
+use Prim.Native.Nat.{ℕ}
+use mathlib.Core.Bool.{Bool, true, false, cond, not, _&&_, _||_}
+use mathlib.Core.List.{List, [], _∷_}
+use lib.Dec.{eqb, leb}
+use Rattle.frame.specs.Refusal.{Line, line, ruled}
+use Rattle.frame.specs.Fields.{isFrame, fieldsIn, dataIn}
+use Rattle.frame.specs.Raw.{tooLong}
+use Rattle.frame.specs.declared.direction.Direction.{Direction}
+use Rattle.frame.specs.declared.direction.Direction.the-variants.{Command, Answer}
+use Rattle.row.specs.Table.{rowOf}
+use Rattle.row.specs.declared.profile.Profile.{Profile}
+use Rattle.message.specs.Judge.{rowIn, judgeLines}
+use Rattle.message.specs.Content.{contentOf}
+use Rattle.message.specs.declared.read.Said.{Said}
+use Rattle.message.specs.declared.read.SaidReading.{SaidReading}
+use Rattle.message.specs.declared.read.SaidReading.the-variants as sayings
+use Rattle.message.specs.declared.read.Denial.{Denial}
+use Rattle.message.specs.declared.read.Message.{Message}
+use Rattle.message.specs.declared.read.Message.the-variants as message
+use Rattle.message.specs.declared.read.Reading.{Reading}
+use Rattle.message.specs.declared.read.Reading.the-variants as reading
+use Rattle.message.specs.declared.read.FrameReading.{FrameReading}
+use Rattle.message.specs.declared.read.FrameReading.the-variants as frame
+
+-- "if Ac is 82 to 86, the frame is the message denied"
+abbrev pub isDenial : ℕ → Bool
+isDenial ac = leb 0x82 ac && leb ac 0x86
+
+-- 5: "answer code not 00 or 82 to 86"
+abbrev pub wrongCode : ℕ → Line
+wrongCode ac = line 5 (not (eqb ac 0x00 || isDenial ac))
+
+-- "Answers: 5; then, if Ac is 82 to 86, the frame is the message denied with its zone, command, Ac and data as they came,
+-- unchecked ..; if Ac is 00, as for commands." Denied data over 255, which no frame brings, are 3.
+abbrev pub readLines : Profile → Direction → ℕ → ℕ → ℕ → List ℕ → List Line
+readLines profile Command zone command ac body = judgeLines profile Command zone command body
+readLines profile Answer zone command ac body =
+    wrongCode ac ∷ cond (isDenial ac) (tooLong body ∷ []) (judgeLines profile Answer zone command body)
+
+abbrev pub said : Profile → Direction → ℕ → ℕ → List ℕ → Said
+said profile dir zone command body = record { zone = zone; command = command; content = contentOf dir (rowIn (rowOf profile command)) body }
+
+abbrev pub denial : ℕ → ℕ → ℕ → Denial
+denial zone command ac = record { zone = zone; command = command; answer = ac }
+
+-- what a command or a status says, where none of its lines applies
+unfoldable pub saidRead : Profile → Direction → ℕ → ℕ → List ℕ → SaidReading
+saidRead profile dir zone command body =
+    ruled (judgeLines profile dir zone command body) sayings.Refused (sayings.Said (said profile dir zone command body))
+
+-- the message that they are, where none of the lines applies
+abbrev pub messageOf : Profile → Direction → ℕ → ℕ → ℕ → List ℕ → Message
+messageOf profile Command zone command ac body = message.Command (said profile Command zone command body)
+messageOf profile Answer zone command ac body =
+    cond (isDenial ac) (message.Denied (denial zone command ac)) (message.Status (said profile Answer zone command body))
+
+unfoldable pub readOf : Profile → Direction → ℕ → ℕ → ℕ → List ℕ → Reading
+readOf profile dir zone command ac body =
+    ruled (readLines profile dir zone command ac body) reading.Refused (reading.Message (messageOf profile dir zone command ac body))
+
+-- the data of a denied message, as they came; the other messages have theirs in their content
+abbrev pub deniedData : Message → List ℕ → List ℕ
+deniedData (message.Command s) body = []
+deniedData (message.Status s) body = []
+deniedData (message.Denied d) body = body
+
+-- "An answer that is no message passes its number on unchanged."
+abbrev pub fromReading : Reading → FrameReading
+fromReading (reading.Message m) = frame.Message m
+fromReading (reading.Refused n) = frame.Refused n
+
+-- what the bytes of one whole frame read as
+unfoldable pub frameRead : Profile → Direction → List ℕ → FrameReading
+frameRead profile dir bytes =
+    cond (isFrame dir bytes)
+    (fromReading (readOf profile dir (fieldsIn dir bytes .zone) (fieldsIn dir bytes .command) (fieldsIn dir bytes .answer) (dataIn dir bytes)))
+    frame.NotOneFrame
+
+-- the data of the denied message that a frame is; nothing where it is none
+abbrev pub deniedIn : FrameReading → List ℕ → List ℕ
+deniedIn (frame.Message m) body = deniedData m body
+deniedIn (frame.Refused n) body = []
+deniedIn frame.NotOneFrame body = []
+
+abbrev pub isDenialMessage : Message → Bool
+isDenialMessage (message.Command s) = false
+isDenialMessage (message.Status s) = false
+isDenialMessage (message.Denied d) = true
+
+abbrev pub isDenied : FrameReading → Bool
+isDenied (frame.Message m) = isDenialMessage m
+isDenied (frame.Refused n) = false
+isDenied frame.NotOneFrame = false

@@ -1,0 +1,21 @@
+-- Promise: a write that is refused leaves the lent bytes as they were and counts none; "A refusal returns its number and zero
+-- for every other field": each answer's number, 0 where it is accepted, and its other values.
+use mathlib.Core.Path.{_≡_}
+use mathlib.Core.List.{List}
+use Prim.Native.Nat.{ℕ}
+use Rattle.frame.specs.Numbers.{writtenNumber, writtenCount}
+use Rattle.frame.specs.declared.direction.Direction.{Direction}
+use Rattle.row.specs.declared.profile.Profile.{Profile}
+use Rattle.message.specs.Message.{readOf}
+use Rattle.message.specs.Numbers.{readingNumber, readingPaper, zeros}
+use Rattle.message.specs.Write.{messageAnswered, messageLeft, fieldsAnswered, fieldsLeft}
+use Rattle.message.specs.declared.read.Message.{Message}
+
+pub record RefusalPromise : Type 0 where
+  pub zero : (profile : Profile) (dir : Direction) (zone command ac : ℕ) (body : List ℕ) → (readingNumber (readOf profile dir zone command ac body) ≡ 0 → ⊥)
+      → readingPaper profile (readOf profile dir zone command ac body) body ≡ zeros
+  pub message-kept : (profile : Profile) (buf : List ℕ) (at : ℕ) (m : Message) (body : List ℕ) → (writtenNumber (messageAnswered profile buf at m body) ≡ 0 → ⊥)
+      → (messageLeft profile buf at m body ≡ buf) × (writtenCount (messageAnswered profile buf at m body) ≡ 0)
+  pub fields-kept : (profile : Profile) (dir : Direction) (buf : List ℕ) (at zone command ac : ℕ) (body : List ℕ)
+      → (writtenNumber (fieldsAnswered profile dir buf at zone command ac body) ≡ 0 → ⊥)
+      → (fieldsLeft profile dir buf at zone command ac body ≡ buf) × (writtenCount (fieldsAnswered profile dir buf at zone command ac body) ≡ 0)

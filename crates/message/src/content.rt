@@ -1,0 +1,255 @@
+use crate::judge::is_answer;
+use crate::judge::is_setting;
+use crate::judge::is_word;
+use frame::direction::Direction;
+use row::signed::Coded;
+use row::table::Row;
+ghost use mathlib.Core.Path.{_≡_};
+ghost use mathlib.Core.Bool.{cond};
+ghost use Prim.Native.Nat.{_<_};
+ghost use lib.ListN.{length};
+ghost use mathlib.Core.Bool.{_&&_};
+ghost use Rattle.message.specs.Judge.{isAnswer, isWord};
+ghost use Rattle.message.specs.Content.{wordOf, isOff, valueContent, byteContent, contentOf, encodedCode, numberCode, encodedOf, sizeOf, valueByte, inCommand, numberByte, codeFits, isForm};
+
+// What the data of a message say, in the words of document 01.
+pub enum Content {
+    Request,
+    Up,
+    Down,
+    On,
+    Off,
+    Toggle,
+    LevellerOff,
+    // a setting or a status with its number, signed where the row is signed
+    Number(i16),
+    // an input of S 0F, and its state
+    Input(u8, bool),
+}
+
+// The data that say it: one byte or two, or none where a number has no code.
+pub enum Encoded {
+    One(u8),
+    Two(u8, u8),
+    NoCode,
+}
+
+// What data of one byte or two say in a row.
+pub(crate) fn content_of(direction: Direction, row: Row, body: &[u8]) -> Content
+    requires { ⌜ 0 < length (now body) ⌝ }
+    ensures { λ r. ⌜ r ≡ contentOf direction row (now (body .entry)) ⌝ }
+{
+    if body.len() == 2 {
+        return Content::Input(body[0], body[1] == 1);
+    }
+    byte_content(direction, row, body[0])
+}
+
+fn byte_content(direction: Direction, row: Row, byte: u8) -> Content
+    ensures { λ r. ⌜ r ≡ byteContent direction row byte ⌝ }
+{
+    match direction {
+        Direction::Command => command_content(row, byte),
+        Direction::Answer => value_content(row, byte),
+    }
+}
+
+fn command_content(row: Row, byte: u8) -> Content
+    ensures { λ r. ⌜ r ≡ cond (isWord row byte) (wordOf row byte) (valueContent row byte) ⌝ }
+{
+    if is_word(row, byte) {
+        return word_of(row, byte);
+    }
+    value_content(row, byte)
+}
+
+// F0, F1, F2 and 02, where the row has them.
+fn word_of(row: Row, byte: u8) -> Content
+    ensures { λ r. ⌜ r ≡ wordOf row byte ⌝ }
+{
+    if byte == 0xF0 {
+        return Content::Request;
+    }
+    if byte == 0x02 {
+        return Content::Toggle;
+    }
+    if byte == 0xF1 {
+        return f1_says(row);
+    }
+    f2_says(row)
+}
+
+fn f1_says(row: Row) -> Content
+    ensures { λ r. ⌜ r ≡ cond (row .switch) Content.On Content.Up ⌝ }
+{
+    if row.switch {
+        return Content::On;
+    }
+    Content::Up
+}
+
+fn f2_says(row: Row) -> Content
+    ensures { λ r. ⌜ r ≡ cond (row .switch) Content.Off Content.Down ⌝ }
+{
+    if row.switch {
+        return Content::Off;
+    }
+    Content::Down
+}
+
+// A code of the row: off, or its number.
+fn value_content(row: Row, code: u8) -> Content
+    ensures { λ r. ⌜ r ≡ valueContent row code ⌝ }
+{
+    if is_off(row, code) {
+        return Content::LevellerOff;
+    }
+    if row.signed {
+        return Content::Number(row::signed::number_of(code));
+    }
+    Content::Number(code as i16)
+}
+
+fn is_off(row: Row, code: u8) -> bool
+    ensures { λ r. ⌜ r ≡ isOff row code ⌝ }
+{
+    if code != 0xFF {
+        return false;
+    }
+    row.off
+}
+
+// The data that say something in a row.
+pub(crate) fn encode(row: Row, content: Content) -> Encoded
+    ensures { λ r. ⌜ r ≡ encodedOf row content ⌝ }
+{
+    match content {
+        Content::Request => Encoded::One(0xF0),
+        Content::Up => Encoded::One(0xF1),
+        Content::Down => Encoded::One(0xF2),
+        Content::On => Encoded::One(0xF1),
+        Content::Off => Encoded::One(0xF2),
+        Content::Toggle => Encoded::One(0x02),
+        Content::LevellerOff => Encoded::One(0xFF),
+        Content::Number(number) => number_code(row, number),
+        Content::Input(input, on) => input_code(input, on),
+    }
+}
+
+fn input_code(input: u8, on: bool) -> Encoded
+    ensures { λ r. ⌜ r ≡ Encoded.Two input (cond on 1 0) ⌝ }
+{
+    if on {
+        return Encoded::Two(input, 1);
+    }
+    Encoded::Two(input, 0)
+}
+
+// The code of a number in a row.
+fn number_code(row: Row, number: i16) -> Encoded
+    ensures { λ r. ⌜ r ≡ numberCode row number ⌝ }
+{
+    if row.signed {
+        return encoded_code(row::signed::code_of(number));
+    }
+    encoded_code(row::signed::plain_code_of(number))
+}
+
+fn encoded_code(coded: Coded) -> Encoded
+    ensures { λ r. ⌜ r ≡ encodedCode coded ⌝ }
+{
+    match coded {
+        Coded::Code(code) => Encoded::One(code),
+        Coded::NoCode => Encoded::NoCode,
+    }
+}
+
+// How many bytes of data say it.
+pub(crate) fn size_of(content: Content) -> usize
+    ensures { λ r. ⌜ r ≡ sizeOf content ⌝ }
+{
+    match content {
+        Content::Request => 1,
+        Content::Up => 1,
+        Content::Down => 1,
+        Content::On => 1,
+        Content::Off => 1,
+        Content::Toggle => 1,
+        Content::LevellerOff => 1,
+        Content::Number(_) => 1,
+        Content::Input(_, _) => 2,
+    }
+}
+
+// Whether a row can say this in a direction.
+pub(crate) fn is_form(direction: Direction, row: Row, content: Content) -> bool
+    ensures { λ r. ⌜ r ≡ isForm direction row content ⌝ }
+{
+    match content {
+        Content::Request => in_command(direction, row.request),
+        Content::Up => in_command(direction, row.steps),
+        Content::Down => in_command(direction, row.steps),
+        Content::On => in_command(direction, row.switch),
+        Content::Off => in_command(direction, row.switch),
+        Content::Toggle => in_command(direction, row.toggle),
+        Content::LevellerOff => off_fits(direction, row),
+        Content::Number(number) => code_fits(direction, row, number_code(row, number)),
+        Content::Input(input, _) => input_fits(row, input),
+    }
+}
+
+fn in_command(direction: Direction, has: bool) -> bool
+    ensures { λ r. ⌜ r ≡ inCommand direction has ⌝ }
+{
+    match direction {
+        Direction::Command => has,
+        Direction::Answer => false,
+    }
+}
+
+fn off_fits(direction: Direction, row: Row) -> bool
+    ensures { λ r. ⌜ r ≡ row .off && valueByte direction row 0xFF ⌝ }
+{
+    if !row.off {
+        return false;
+    }
+    value_byte(direction, row, 0xFF)
+}
+
+fn input_fits(row: Row, input: u8) -> bool
+    ensures { λ r. ⌜ r ≡ row .pair && isAnswer row input ⌝ }
+{
+    if !row.pair {
+        return false;
+    }
+    is_answer(row, input)
+}
+
+// Whether a number's code is one of the row's in a direction, and not its off.
+fn code_fits(direction: Direction, row: Row, encoded: Encoded) -> bool
+    ensures { λ r. ⌜ r ≡ codeFits direction row encoded ⌝ }
+{
+    match encoded {
+        Encoded::One(code) => number_byte(direction, row, code),
+        Encoded::Two(_, _) => false,
+        Encoded::NoCode => false,
+    }
+}
+
+fn number_byte(direction: Direction, row: Row, code: u8) -> bool
+    ensures { λ r. ⌜ r ≡ numberByte direction row code ⌝ }
+{
+    if !value_byte(direction, row, code) {
+        return false;
+    }
+    !is_off(row, code)
+}
+
+fn value_byte(direction: Direction, row: Row, code: u8) -> bool
+    ensures { λ r. ⌜ r ≡ valueByte direction row code ⌝ }
+{
+    match direction {
+        Direction::Command => is_setting(row, code),
+        Direction::Answer => is_answer(row, code),
+    }
+}

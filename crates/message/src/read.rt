@@ -1,0 +1,215 @@
+use crate::content::Content;
+use crate::content::content_of;
+use crate::judge::Judged;
+use crate::judge::judge;
+use frame::direction::Direction;
+use frame::fields::Brought;
+use row::profile::Profile;
+ghost use mathlib.Core.Path.{_≡_};
+ghost use Rattle.frame.specs.declared.direction.Direction.the-variants as direction;
+ghost use Rattle.message.specs.Message.{saidRead, readOf, frameRead, isDenialMessage, isDenied, deniedIn};
+ghost use Rattle.frame.specs.Fields.{dataOf};
+ghost use Rattle.message.specs.Passed.{judgedOn, saidOn, readingOn};
+
+// What a command asks for, or a status tells: zone, command, and what the data say.
+pub struct Said {
+    pub zone: u8,
+    pub command: u8,
+    pub content: Content,
+}
+
+// What a unit denied, as it came. Its data stay in the slice that was lent.
+pub struct Denial {
+    pub zone: u8,
+    pub command: u8,
+    pub answer: u8,
+}
+
+pub enum Message {
+    Command(Said),
+    Status(Said),
+    Denied(Denial),
+}
+
+// The message, or the number of the refusal.
+pub enum Reading {
+    Message(Message),
+    Refused(u8),
+}
+
+// The same from the bytes of a frame, which may not be one whole frame.
+pub enum FrameReading {
+    Message(Message),
+    Refused(u8),
+    NotOneFrame,
+}
+
+// What a command or a status says, or the number of the refusal.
+pub enum SaidReading {
+    Said(Said),
+    Refused(u8),
+}
+
+// Reads a message from the bytes of one whole frame.
+pub fn read_frame(profile: Profile, direction: Direction, bytes: &[u8]) -> FrameReading
+    ensures { λ r. ⌜ r ≡ frameRead profile direction (now (bytes .entry)) ⌝ }
+{
+    let brought = frame::fields::frame_fields(direction, bytes);
+    let Brought::Frame(fields) = brought else {
+        return FrameReading::NotOneFrame;
+    };
+    let body = frame::fields::frame_data(direction, bytes);
+    let reading = read_message(
+        profile,
+        direction,
+        fields.zone,
+        fields.command,
+        fields.answer,
+        body,
+    );
+    let Reading::Message(message) = reading else {
+        return frame_refused(reading);
+    };
+    FrameReading::Message(message)
+}
+
+// Reads a message from what a frame brings. The answer code of a command is not looked at.
+pub fn read_message(
+    profile: Profile,
+    direction: Direction,
+    zone: u8,
+    command: u8,
+    answer: u8,
+    body: &[u8],
+) -> Reading
+    ensures { λ r. ⌜ r ≡ readOf profile direction zone command answer (now (body .entry)) ⌝ }
+{
+    match direction {
+        Direction::Command => read_command(profile, zone, command, body),
+        Direction::Answer => read_answer(profile, zone, command, answer, body),
+    }
+}
+
+// The data of the denied message that the bytes of a frame are, as they came: a part of the bytes lent. Other
+// messages have theirs in their content.
+pub fn denied_data(profile: Profile, direction: Direction, bytes: &[u8]) -> &[u8]
+    ensures { λ r. ⌜ now r ≡ deniedIn (frameRead profile direction (now (bytes .entry))) (dataOf direction (now (bytes .entry))) ⌝ }
+{
+    if !is_denied(read_frame(profile, direction, bytes)) {
+        return &bytes[..0];
+    }
+    frame::fields::frame_data(direction, bytes)
+}
+
+fn is_denied(reading: FrameReading) -> bool
+    ensures { λ r. ⌜ r ≡ isDenied reading ⌝ }
+{
+    match reading {
+        FrameReading::Message(message) => is_denial(message),
+        FrameReading::Refused(_) => false,
+        FrameReading::NotOneFrame => false,
+    }
+}
+
+fn is_denial(message: Message) -> bool
+    ensures { λ r. ⌜ r ≡ isDenialMessage message ⌝ }
+{
+    match message {
+        Message::Command(_) => false,
+        Message::Status(_) => false,
+        Message::Denied(_) => true,
+    }
+}
+
+fn read_command(profile: Profile, zone: u8, command: u8, body: &[u8]) -> Reading
+    ensures { λ r. ⌜ r ≡ readOf profile direction.Command zone command 0 (now (body .entry)) ⌝ }
+{
+    let reading = read_said(profile, Direction::Command, zone, command, body);
+    let SaidReading::Said(said) = reading else {
+        return said_refused(reading);
+    };
+    Reading::Message(Message::Command(said))
+}
+
+// 5 for an answer code that is neither 00 nor 82 to 86; denied data over 255 are 3.
+fn read_answer(profile: Profile, zone: u8, command: u8, answer: u8, body: &[u8]) -> Reading
+    ensures { λ r. ⌜ r ≡ readOf profile direction.Answer zone command answer (now (body .entry)) ⌝ }
+{
+    if answer == 0x00 {
+        return read_status(profile, zone, command, body);
+    }
+    if answer < 0x82 {
+        return Reading::Refused(5);
+    }
+    if answer > 0x86 {
+        return Reading::Refused(5);
+    }
+    if body.len() > 255 {
+        return Reading::Refused(3);
+    }
+    Reading::Message(Message::Denied(Denial {
+        zone: zone,
+        command: command,
+        answer: answer,
+    }))
+}
+
+fn read_status(profile: Profile, zone: u8, command: u8, body: &[u8]) -> Reading
+    ensures { λ r. ⌜ r ≡ readOf profile direction.Answer zone command 0 (now (body .entry)) ⌝ }
+{
+    let reading = read_said(profile, Direction::Answer, zone, command, body);
+    let SaidReading::Said(said) = reading else {
+        return said_refused(reading);
+    };
+    Reading::Message(Message::Status(said))
+}
+
+// What a command or a status says, once it is judged.
+fn read_said(
+    profile: Profile,
+    direction: Direction,
+    zone: u8,
+    command: u8,
+    body: &[u8],
+) -> SaidReading
+    ensures { λ r. ⌜ r ≡ saidRead profile direction zone command (now (body .entry)) ⌝ }
+{
+    let judged = judge(profile, direction, zone, command, body);
+    let Judged::Legal(row) = judged else {
+        return judged_refused(judged);
+    };
+    let content = content_of(direction, row, body);
+    SaidReading::Said(Said {
+        zone: zone,
+        command: command,
+        content: content,
+    })
+}
+
+// A refusal's number, passed on.
+fn judged_refused(judged: Judged) -> SaidReading
+    ensures { λ r. ⌜ r ≡ judgedOn judged ⌝ }
+{
+    match judged {
+        Judged::Legal(_) => SaidReading::Refused(0),
+        Judged::Refused(number) => SaidReading::Refused(number),
+    }
+}
+
+fn said_refused(reading: SaidReading) -> Reading
+    ensures { λ r. ⌜ r ≡ saidOn reading ⌝ }
+{
+    match reading {
+        SaidReading::Said(_) => Reading::Refused(0),
+        SaidReading::Refused(number) => Reading::Refused(number),
+    }
+}
+
+fn frame_refused(reading: Reading) -> FrameReading
+    ensures { λ r. ⌜ r ≡ readingOn reading ⌝ }
+{
+    match reading {
+        Reading::Message(_) => FrameReading::Refused(0),
+        Reading::Refused(number) => FrameReading::Refused(number),
+    }
+}

@@ -1,0 +1,176 @@
+use crate::content::Content;
+use crate::content::Encoded;
+use crate::content::encode;
+use crate::content::is_form;
+use crate::content::size_of;
+use crate::judge::Judged;
+use crate::judge::judge_row;
+use crate::judge::length_fits;
+use crate::read::Message;
+use crate::read::Reading;
+use crate::read::read_message;
+use frame::direction::Direction;
+use frame::raw::Written;
+use frame::raw::write_raw;
+use row::profile::Profile;
+ghost use mathlib.Core.Path.{_≡_};
+ghost use mathlib.Core.List.{[], _∷_};
+ghost use Rattle.frame.specs.Frame.{frameOf};
+ghost use Rattle.frame.specs.Raw.{tooLong, rawAnswered, rawLeft};
+ghost use Rattle.frame.specs.declared.direction.Direction.the-variants as direction;
+ghost use Rattle.message.specs.Content.{encodedData};
+ghost use Rattle.message.specs.Write.{saidLines, saidData, notDenied, writeAnswered, writeLeft, messageAnswered, messageLeft, fieldsAnswered, fieldsLeft};
+ghost use Rattle.message.specs.Passed.{judgedWritten, readingWritten};
+
+// Writes a message into the rest of the buffer from a place: the checks of reading, 4 also for a form
+// that the row lacks, then 9. Denied: only 5, then 3, then 9; the profile is not asked. `body` are the
+// data of a denied message; the other messages have theirs in their content.
+pub fn write_message(
+    profile: Profile,
+    buf: &mut [u8],
+    at: usize,
+    message: Message,
+    body: &[u8],
+) -> Written
+    ensures { λ r. ⌜ (r ≡ messageAnswered profile (now (buf .entry)) at message (now (body .entry))) × (now (buf .exit) ≡ messageLeft profile (now (buf .entry)) at message (now (body .entry))) ⌝ }
+{
+    match message {
+        Message::Command(said) => {
+            let content = said.content;
+            write_said(
+                profile,
+                Direction::Command,
+                buf,
+                at,
+                said.zone,
+                said.command,
+                content,
+            )
+        }
+        Message::Status(said) => {
+            let content = said.content;
+            write_said(
+                profile,
+                Direction::Answer,
+                buf,
+                at,
+                said.zone,
+                said.command,
+                content,
+            )
+        }
+        Message::Denied(denial) => write_denied(
+            buf,
+            at,
+            denial.zone,
+            denial.command,
+            denial.answer,
+            body,
+        ),
+    }
+}
+
+// Writes fields and data that are a message, with the numbers that reading them would give, then 9. The
+// answer code of a command is not looked at.
+pub fn write_fields(
+    profile: Profile,
+    direction: Direction,
+    buf: &mut [u8],
+    at: usize,
+    zone: u8,
+    command: u8,
+    answer: u8,
+    body: &[u8],
+) -> Written
+    ensures { λ r. ⌜ (r ≡ fieldsAnswered profile direction (now (buf .entry)) at zone command answer (now (body .entry))) × (now (buf .exit) ≡ fieldsLeft profile direction (now (buf .entry)) at zone command answer (now (body .entry))) ⌝ }
+{
+    let reading = read_message(profile, direction, zone, command, answer, body);
+    let Reading::Message(_) = reading else {
+        return reading_written(reading);
+    };
+    write_raw(direction, buf, at, zone, command, answer, body)
+}
+
+// Only 5, then 3 for data over 255, then 9: what a unit denies is not checked.
+fn write_denied(
+    buf: &mut [u8],
+    at: usize,
+    zone: u8,
+    command: u8,
+    answer: u8,
+    body: &[u8],
+) -> Written
+    ensures { λ r. ⌜ (r ≡ writeAnswered (notDenied answer ∷ tooLong (now (body .entry)) ∷ []) (now (buf .entry)) at (frameOf direction.Answer zone command answer (now (body .entry)))) × (now (buf .exit) ≡ writeLeft (notDenied answer ∷ tooLong (now (body .entry)) ∷ []) (now (buf .entry)) at (frameOf direction.Answer zone command answer (now (body .entry)))) ⌝ }
+{
+    if answer < 0x82 {
+        return Written::Refused(5);
+    }
+    if answer > 0x86 {
+        return Written::Refused(5);
+    }
+    write_raw(Direction::Answer, buf, at, zone, command, answer, body)
+}
+
+// A command or a status, once its zone, row, length and form are judged.
+fn write_said(
+    profile: Profile,
+    direction: Direction,
+    buf: &mut [u8],
+    at: usize,
+    zone: u8,
+    command: u8,
+    content: Content,
+) -> Written
+    ensures { λ r. ⌜ (r ≡ writeAnswered (saidLines profile direction zone command content) (now (buf .entry)) at (frameOf direction zone command 0 (saidData profile command content))) × (now (buf .exit) ≡ writeLeft (saidLines profile direction zone command content) (now (buf .entry)) at (frameOf direction zone command 0 (saidData profile command content))) ⌝ }
+{
+    let judged = judge_row(profile, zone, command);
+    let Judged::Legal(row) = judged else {
+        return judged_written(judged);
+    };
+    if !length_fits(direction, row, size_of(content)) {
+        return Written::Refused(3);
+    }
+    if !is_form(direction, row, content) {
+        return Written::Refused(4);
+    }
+    write_encoded(direction, buf, at, zone, command, encode(row, content))
+}
+
+// The frame of one or two bytes of data; its answer code is 00.
+fn write_encoded(
+    direction: Direction,
+    buf: &mut [u8],
+    at: usize,
+    zone: u8,
+    command: u8,
+    encoded: Encoded,
+) -> Written
+    ensures { λ r. ⌜ (r ≡ rawAnswered direction (now (buf .entry)) at (encodedData encoded)) × (now (buf .exit) ≡ rawLeft direction (now (buf .entry)) at zone command 0 (encodedData encoded)) ⌝ }
+{
+    match encoded {
+        Encoded::One(first) => write_raw(direction, buf, at, zone, command, 0, &[first]),
+        Encoded::Two(first, second) => {
+            write_raw(direction, buf, at, zone, command, 0, &[first, second])
+        }
+        Encoded::NoCode => write_raw(direction, buf, at, zone, command, 0, &[]),
+    }
+}
+
+// A refusal's number, passed on.
+fn judged_written(judged: Judged) -> Written
+    ensures { λ r. ⌜ r ≡ judgedWritten judged ⌝ }
+{
+    match judged {
+        Judged::Legal(_) => Written::Refused(0),
+        Judged::Refused(number) => Written::Refused(number),
+    }
+}
+
+fn reading_written(reading: Reading) -> Written
+    ensures { λ r. ⌜ r ≡ readingWritten reading ⌝ }
+{
+    match reading {
+        Reading::Message(_) => Written::Refused(0),
+        Reading::Refused(number) => Written::Refused(number),
+    }
+}

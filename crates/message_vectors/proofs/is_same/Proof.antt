@@ -1,0 +1,52 @@
+-- `message_vectors::is_same` meets its contract.
+use mathlib.Core.Path.{_≡_}
+use Prim.Native.Nat.{_-_, _≤_}
+use lib.ListN.{length}
+use borrow.Author.Needs.{needs}
+use Rattle.message_vectors.proofs.is_same.Statement.{statement}
+use Rattle.message_vectors.proofs.is_same.Tie as tie
+
+abbrev Inv-loop : tie.InvT-loop
+Inv-loop buf bytes i₀ i-end i = (i ≤ i-end) × (i-end ≡ length buf)
+
+abbrev μ-loop : tie.MeasureT-loop
+μ-loop buf bytes i₀ i-end i = i-end - i
+
+loop-holds : tie.Need-loop-holds Inv-loop μ-loop
+loop-holds c = search needs
+
+shared-slice-read-if1 : tie.Need-shared-slice-read-if1 Inv-loop μ-loop
+shared-slice-read-if1 c = search needs
+
+right-byte-requires : tie.Need-right-byte-requires Inv-loop μ-loop
+right-byte-requires c κs = search needs
+
+returns : tie.Need-returns Inv-loop μ-loop
+returns c = search needs
+
+add-i : tie.Need-add-i Inv-loop μ-loop
+add-i c = search needs
+
+loop-less : tie.Need-loop-less Inv-loop μ-loop
+loop-less c = search needs
+
+loop-again : tie.Need-loop-again Inv-loop μ-loop
+loop-again c = search needs
+
+returns-2 : tie.Need-returns-2 Inv-loop μ-loop
+returns-2 c = search needs
+
+pub is-same-spec : {M : Type 1} → statement M
+is-same-spec =
+    tie.close
+    (tie.spec
+    Inv-loop
+    μ-loop
+    loop-holds
+    shared-slice-read-if1
+    right-byte-requires
+    returns
+    add-i
+    loop-less
+    loop-again
+    returns-2)

@@ -1,0 +1,7 @@
+-- What must be believed: the profiles, the table of rows, the rule of signed codes; then the promises. `Computed` need not be
+-- believed.
+pub mod Profile
+pub mod Table
+pub mod Signed
+pub mod SignedPromise
+pub mod Computed
