@@ -12,7 +12,8 @@ use Rattle.row.specs.Profile.{profileOf, letterOf, zonesOf}
 use Rattle.row.specs.Table.{rowOf}
 use Rattle.row.specs.Signed.{numberOf, codeOf, plainCodeOf}
 use Rattle.row.specs.declared.profile.Profile.{Profile}
-use Rattle.message.specs.Judge.{judgedOf}
+use Rattle.row.specs.declared.table.Row.{Row}
+use Rattle.message.specs.Judge.{isSetting, rowJudged, judgedOf}
 use Rattle.message.specs.Message.{readOf, frameRead, deniedIn}
 use Rattle.message.specs.Write.{messageAnswered, messageLeft, fieldsAnswered, fieldsLeft}
 use Rattle.message.specs.declared.read.Message.{Message}
@@ -59,3 +60,9 @@ code-of-one number = one (codeOf number)
 
 pub plain-code-of-one : (number : ℤ) → OneAnswer (λ x. x ≡ plainCodeOf number)
 plain-code-of-one number = one (plainCodeOf number)
+
+pub judge-row-one : (profile : Profile) (zone command : ℕ) → OneAnswer (λ x. x ≡ rowJudged profile zone command)
+judge-row-one profile zone command = one (rowJudged profile zone command)
+
+pub is-setting-one : (row : Row) (code : ℕ) → OneAnswer (λ x. x ≡ isSetting row code)
+is-setting-one row code = one (isSetting row code)

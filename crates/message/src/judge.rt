@@ -34,7 +34,7 @@ pub fn judge(profile: Profile, direction: Direction, zone: u8, command: u8, body
 }
 
 // Judges zone and row alone.
-pub(crate) fn judge_row(profile: Profile, zone: u8, command: u8) -> Judged
+pub fn judge_row(profile: Profile, zone: u8, command: u8) -> Judged
     ensures { λ r. ⌜ r ≡ rowJudged profile zone command ⌝ }
 {
     if zone == 0 {
@@ -136,7 +136,7 @@ fn has_f1_f2(row: Row) -> bool
 }
 
 // Whether a code is one that a command of this row sets.
-pub(crate) fn is_setting(row: Row, code: u8) -> bool
+pub fn is_setting(row: Row, code: u8) -> bool
     ensures { λ r. ⌜ r ≡ isSetting row code ⌝ }
 {
     let first = row.settings;

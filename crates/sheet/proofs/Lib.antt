@@ -1,0 +1,4 @@
+pub mod Repeats
+pub mod Sheets
+pub mod Witness
+pub mod OneAnswer

@@ -1,0 +1,59 @@
+-- Sheets that are accepted, and sheets at fault, computed from the definitions.
+use mathlib.Core.Path.{_≡_, refl}
+use mathlib.Core.List.{List, [], _∷_}
+use Prim.Native.Nat.{ℕ}
+use lib.ListN.{replicate}
+use Rattle.row.specs.Table.{table, firstRow}
+use Rattle.row.specs.declared.profile.Profile.the-variants.{A, S}
+use Rattle.message.specs.Judge.{rowJudged}
+use Rattle.sheet.specs.Line.{isLegal, isRepeated}
+use Rattle.sheet.specs.Check.{faultAfter, withLine, verdictOf}
+use Rattle.sheet.specs.SheetPromise.{checkedAll, sheetVerdict}
+use Rattle.sheet.specs.declared.line.Line.{Line}
+use Rattle.sheet.specs.declared.check.Verdict.the-variants.{Accepted, Refused}
+
+abbrev line : ℕ → ℕ → ℕ → Line
+line zone command value = record { zone = zone; command = command; value = value }
+
+-- twelve lines of A: four rows in three zones
+abbrev twelve : List Line
+twelve =
+    line 1 0x38 0x02 ∷ line 2 0x38 0x00 ∷ line 3 0x38 0x01
+    ∷ line 1 0x39 0xFF ∷ line 2 0x39 0x0A ∷ line 3 0x39 0x00
+    ∷ line 1 0x3A 0x85 ∷ line 2 0x3A 0x0F ∷ line 3 0x3A 0x8F
+    ∷ line 1 0x46 0x8A ∷ line 2 0x46 0x0A ∷ line 3 0x46 0x00
+    ∷ []
+
+-- eight lines of S: all of its sheet rows in both zones
+abbrev eight : List Line
+eight =
+    line 1 0x0D 0x0D ∷ line 2 0x0D 0x63
+    ∷ line 1 0x0E 0x00 ∷ line 2 0x0E 0x01
+    ∷ line 1 0x5B 0x00 ∷ line 2 0x5B 0x09
+    ∷ line 1 0x5C 0x63 ∷ line 2 0x5C 0x00
+    ∷ []
+
+pub twelve-accepted : sheetVerdict A twelve ≡ Accepted
+unfolding checkedAll withLine verdictOf faultAfter isLegal isRepeated rowJudged firstRow table
+twelve-accepted = refl
+
+pub eight-accepted : sheetVerdict S eight ≡ Accepted
+unfolding checkedAll withLine verdictOf faultAfter isLegal isRepeated rowJudged firstRow table
+eight-accepted = refl
+
+pub none-accepted : sheetVerdict A [] ≡ Accepted
+unfolding checkedAll verdictOf
+none-accepted = refl
+
+-- 6 before all, with the limit; the lowest fault; 7 before 8 on one line
+pub thirteen-refused : sheetVerdict A (replicate 13 (line 9 0x99 0x00)) ≡ Refused 6 12
+unfolding checkedAll withLine verdictOf faultAfter isLegal isRepeated rowJudged firstRow table
+thirteen-refused = refl
+
+pub lowest-refused : sheetVerdict A (line 1 0x38 0x02 ∷ line 1 0x38 0x01 ∷ line 1 0x37 0x00 ∷ []) ≡ Refused 8 1
+unfolding checkedAll withLine verdictOf faultAfter isLegal isRepeated rowJudged firstRow table
+lowest-refused = refl
+
+pub seven-refused : sheetVerdict S (line 1 0x0E 0x01 ∷ line 1 0x0E 0x02 ∷ []) ≡ Refused 7 1
+unfolding checkedAll withLine verdictOf faultAfter isLegal isRepeated rowJudged firstRow table
+seven-refused = refl

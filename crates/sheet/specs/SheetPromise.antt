@@ -1,0 +1,48 @@
+-- Promise: document 01, 'Sheet, sheet file and run': "Checks: 6, then the lowest line at fault, 7 before 8 on that line." Where a
+-- sheet is refused with 7 or 8, that line is at fault by that number and none before it is; it is accepted exactly when it has no
+-- more lines than the limit and none is at fault.
+use mathlib.Core.Path.{_≡_}
+use mathlib.Core.Bool.{true, false}
+use mathlib.Core.List.{List, [], _∷_, _++_}
+use mathlib.Core.Logic.{_⊎_}
+use Prim.Native.Nat.{ℕ, zero, suc, _≤_, _<_}
+use lib.ListN.{length}
+use Rattle.row.specs.declared.profile.Profile.{Profile}
+use Rattle.sheet.specs.Line.{isLegal, isRepeated}
+use Rattle.sheet.specs.Check.{sheetLimit, begun, withLine, verdictOf}
+use Rattle.sheet.specs.declared.line.Line.{Line}
+use Rattle.sheet.specs.declared.check.Checked.{Checked}
+use Rattle.sheet.specs.declared.check.Verdict.{Verdict}
+use Rattle.sheet.specs.declared.check.Verdict.the-variants.{Accepted, Refused}
+
+-- a line behind some others: at fault by a number, 7 before 8, or sound
+abbrev pub AtFault : Profile → List Line → Line → ℕ → Type 0
+AtFault profile earlier l n =
+    ((isLegal profile l ≡ false) × (n ≡ 7)) ⊎ ((isLegal profile l ≡ true) × (isRepeated earlier l ≡ true) × (n ≡ 8))
+
+abbrev pub Sound : Profile → List Line → Line → Type 0
+Sound profile earlier l = (isLegal profile l ≡ true) × (isRepeated earlier l ≡ false)
+
+-- the line at an index is at fault, and each before it is sound
+abbrev pub Lowest : Profile → List Line → List Line → ℕ → ℕ → Type 0
+Lowest profile earlier [] i n = ⊥
+Lowest profile earlier (l ∷ ls) zero n = AtFault profile earlier l n
+Lowest profile earlier (l ∷ ls) (suc i) n = Sound profile earlier l × Lowest profile (earlier ++ l ∷ []) ls i n
+
+abbrev pub AllSound : Profile → List Line → List Line → Type 0
+AllSound profile earlier [] = Unit {0}
+AllSound profile earlier (l ∷ ls) = Sound profile earlier l × AllSound profile (earlier ++ l ∷ []) ls
+
+-- the check of a list of lines, line by line
+unfoldable pub checkedAll : Checked → List Line → Checked
+checkedAll c [] = c
+checkedAll c (l ∷ ls) = checkedAll (withLine c l) ls
+
+abbrev pub sheetVerdict : Profile → List Line → Verdict
+sheetVerdict profile ls = verdictOf (checkedAll (begun profile) ls)
+
+pub record SheetPromise (profile : Profile) (ls : List Line) : Type 0 where
+  pub long : sheetLimit < length ls → sheetVerdict profile ls ≡ Refused 6 sheetLimit
+  pub fault : length ls ≤ sheetLimit → (i n : ℕ) → Lowest profile [] ls i n → sheetVerdict profile ls ≡ Refused n i
+  pub sound : length ls ≤ sheetLimit → AllSound profile [] ls → sheetVerdict profile ls ≡ Accepted
+  pub either : ((i : ℕ) × (n : ℕ) × Lowest profile [] ls i n) ⊎ AllSound profile [] ls

@@ -1,0 +1,3 @@
+// Sheets of wanted settings: which are accepted, and where one is at fault.
+pub mod check;
+pub mod line;
