@@ -1,7 +1,7 @@
 -- The check of a list of lines finds the lowest fault.
 use mathlib.Core.Path.{_≡_, refl, ap, sym, _∙_, subst}
 use mathlib.Core.Bool.{Bool, true, false}
-use mathlib.Core.List.{List, [], _∷_, _++_}
+use mathlib.Core.List.{List, [], _∷_, _++_, append-assoc, append-nil}
 use mathlib.Core.Logic.{_⊎_, inl, inr}
 use Prim.Native.Nat.{ℕ, zero, suc, _+_, _≤_, _<_}
 use native.Mathlib.Nat.{add-zero, zero-add}
@@ -14,10 +14,11 @@ use lib.Seq.{take-suc-set}
 use Rattle.row.specs.declared.profile.Profile.{Profile}
 use Rattle.sheet.specs.Line.{isLegal, isRepeated}
 use Rattle.sheet.specs.Check.{sheetLimit, fault, faultAfter, begun, withLine, verdictOf}
-use Rattle.sheet.specs.SheetPromise.{AtFault, Sound, Lowest, AllSound, checkedAll, SheetPromise}
+use Rattle.sheet.specs.SheetPromise.{AtFault, Sound, Lowest, AllSound, Says, Keeps, checkedAll, sheetVerdict, SheetPromise}
 use Rattle.sheet.specs.declared.line.Line.{Line}
 use Rattle.sheet.specs.declared.check.Fault.{Fault}
 use Rattle.sheet.specs.declared.check.Checked.{Checked}
+use Rattle.sheet.specs.declared.check.Verdict.{Verdict}
 use Rattle.sheet.specs.declared.check.Verdict.the-variants.{Accepted, Refused}
 
 -- a check that holds some lines, no more than the limit, with this lowest fault
@@ -135,10 +136,24 @@ module _ (profile : Profile) where
       go (inr s) (inl w) = inl (suc (w .0), w .1, (s, w .2))
       go (inr s) (inr w) = inr (s, w)
 
+  -- within the limit each line is kept as it came
+  keeps : (earlier ls : List Line) (f : Fault) (c : Checked) → Holds profile earlier f c → length earlier + length ls ≤ sheetLimit
+      → Keeps profile (earlier ++ ls) (checkedAll c ls)
+  unfolding checkedAll
+  keeps earlier [] f c h short = rw (append-nil earlier) (h .family, h .many, ap (λ (n : ℕ). take n (c .lines)) (sym (h .many)) ∙ h .kept)
+  keeps earlier (l ∷ ls) f c h short =
+      rw (← append-assoc earlier (l ∷ []) ls)
+      (keeps (earlier ++ l ∷ []) ls (faultAfter f profile earlier (length earlier) l) (withLine c l) (holds-more earlier f c l h (omega arith)) (omega (arith, length-append earlier (l ∷ []))))
+
+says : (v : Verdict) (n i : ℕ) → v ≡ Refused n i → Says v n i
+says v n i e = rw e (refl, refl)
+
 pub sheet-promise : (profile : Profile) (ls : List Line) → SheetPromise profile ls
 sheet-promise profile ls = record {
-  long = λ h. too-many profile [] ls (fault 0 0) (begun profile) (holds-none profile) (omega arith) (omega arith);
-  fault = λ h i n w. refuses profile [] ls (begun profile) i n (holds-none profile) (omega arith) w ∙ ap (λ (k : ℕ). Refused n k) (zero-add i);
+  long = λ h. says (sheetVerdict profile ls) 6 sheetLimit (too-many profile [] ls (fault 0 0) (begun profile) (holds-none profile) (omega arith) (omega arith));
+  fault =
+      λ h i n w. says (sheetVerdict profile ls) n i (refuses profile [] ls (begun profile) i n (holds-none profile) (omega arith) w ∙ ap (λ (k : ℕ). Refused n k) (zero-add i));
   sound = λ h w. accepts profile [] ls (begun profile) (holds-none profile) (omega arith) w;
   either = either profile [] ls;
+  kept = λ h. keeps profile [] ls (fault 0 0) (begun profile) (holds-none profile) (omega arith);
 }

@@ -27,12 +27,13 @@ faultAfter before profile earlier place l =
     before
 
 abbrev pub begun : Profile → Checked
-begun profile = record { profile = profile; count = 0; lines = replicate 12 (record { zone = 0; command = 0; value = 0 }); fault = fault 0 0 }
+begun profile = record { profile = profile; count = 0; lines = replicate sheetLimit (record { zone = 0; command = 0; value = 0 }); fault = fault 0 0 }
 
+-- one line more; at the limit it is not kept, and one more than the limit counts for any longer sheet
 unfoldable pub withLine : Checked → Line → Checked
 withLine c l =
     cond (leb sheetLimit (c .count))
-    (record { profile = c .profile; count = 13; lines = c .lines; fault = c .fault })
+    (record { profile = c .profile; count = sheetLimit + 1; lines = c .lines; fault = c .fault })
     (record {
       profile = c .profile;
       count = c .count + 1;
@@ -40,7 +41,17 @@ withLine c l =
       fault = faultAfter (c .fault) (c .profile) (take (c .count) (c .lines)) (c .count) l;
     })
 
+-- "Checks: 6, then the lowest line at fault"; the place of a 6 is the limit
 unfoldable pub verdictOf : Checked → Verdict
 verdictOf c =
     cond (ltb sheetLimit (c .count)) (Refused 6 sheetLimit)
     (cond (eqb (c .fault .number) 0) Accepted (Refused (c .fault .number) (c .fault .place)))
+
+-- the number and the place that a verdict gives; "accepted" is 0
+abbrev pub verdictNumber : Verdict → ℕ
+verdictNumber Accepted = 0
+verdictNumber (Refused n i) = n
+
+abbrev pub verdictPlace : Verdict → ℕ
+verdictPlace Accepted = 0
+verdictPlace (Refused n i) = i

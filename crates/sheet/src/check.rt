@@ -11,14 +11,14 @@ ghost use Rattle.sheet.specs.Check.{begun, faultAfter, withLine, verdict
 // The most lines that a sheet may have.
 pub const SHEET_LIMIT: usize = 12;
 
-// The lowest fault of a sheet: its number, 0 for none, and the index of its line.
+// The lowest line at fault: its number, 7 or 8 or 0 for none, and its index.
 pub struct Fault {
     pub number: u8,
     pub place: usize,
 }
 
-// A sheet that is checked line by line: its lines so far and their lowest fault. A count over the limit
-// stands for any longer sheet.
+// A sheet that is checked line by line: its lines so far and the lowest at fault. A count over the limit
+// stands for any longer sheet; the lines past the limit are not kept.
 pub struct Checked {
     pub profile: Profile,
     pub count: usize,
@@ -51,7 +51,7 @@ pub fn begin(profile: Profile) -> Checked
     }
 }
 
-// The sheet with one line more.
+// The sheet with one line more; past the limit it only counts.
 pub fn with_line(sheet: Checked, line: Line) -> Checked
     ensures { λ r. ⌜ r ≡ withLine sheet line ⌝ }
 {
