@@ -1,5 +1,5 @@
 -- Document 01, 'Commands of the two profiles': the table, row by row, in its order.
-use Prim.Native.Nat.{ℕ}
+use Prim.Native.Nat.{ℕ, suc}
 use mathlib.Core.Bool.{Bool, false, cond, _&&_, _||_}
 use mathlib.Core.List.{List, [], _∷_}
 use lib.Dec.{eqb}
@@ -104,3 +104,12 @@ firstRow (r ∷ rs) letter command =
 -- the row that a profile has for a command; 2: "command without a row in the profile"
 abbrev pub rowOf : Profile → ℕ → Found
 rowOf p command = firstRow table (letterOf p) command
+
+-- the place of that row in the table; the count of rows where there is none
+unfoldable pub firstPlace : List Row → ℕ → ℕ → ℕ
+firstPlace [] letter command = 0
+firstPlace (r ∷ rs) letter command =
+    cond (eqb (r .profile) letter && eqb (r .code) command) 0 (suc (firstPlace rs letter command))
+
+abbrev pub placeOf : Profile → ℕ → ℕ
+placeOf p command = firstPlace table (letterOf p) command

@@ -1,7 +1,7 @@
 use crate::profile::Profile;
 use crate::profile::letter_of;
 ghost use mathlib.Core.Path.{_≡_};
-ghost use Rattle.row.specs.Table.{rowOf};
+ghost use Rattle.row.specs.Table.{rowOf, placeOf};
 ghost use Rattle.row.specs.Computed.{codesIf, rowFrom};
 
 // Codes from low to high; none where low is above high.
@@ -71,9 +71,25 @@ const ROWS: [[u8; 14]; 19] = [
     [b'S', 0x5C, 2, 1, 0x00, 0x63, 1, 0, 1, 0, 0, 0, 0, 1], // processor volume
 ];
 
+// How many rows the table has.
+pub const ROW_COUNT: usize = 19;
+
 // The row that a profile has for a command.
 pub fn find_row(profile: Profile, command: u8) -> Found
     ensures { λ r. ⌜ r ≡ rowOf profile command ⌝ }
+{
+    let place = row_place(profile, command);
+    if ROW_COUNT <= place {
+        return Found::NoRow;
+    }
+    let rows = ROWS;
+    let numbers = rows[place];
+    Found::Row(row_from(numbers))
+}
+
+// The place in the table of the row that a profile has for a command; the count of rows where it has none.
+pub fn row_place(profile: Profile, command: u8) -> usize
+    ensures { λ r. ⌜ r ≡ placeOf profile command ⌝ }
 {
     let letter = letter_of(profile);
     let rows = ROWS;
@@ -82,12 +98,12 @@ pub fn find_row(profile: Profile, command: u8) -> Found
         let numbers = rows[i];
         if numbers[0] == letter {
             if numbers[1] == command {
-                return Found::Row(row_from(numbers));
+                return i;
             }
         }
         i += 1;
     }
-    Found::NoRow
+    ROW_COUNT
 }
 
 // The row that a line of the table writes out.

@@ -1,100 +1,45 @@
 -- `row::table::find_row` meets its contract.
 use mathlib.Core.List.{[]}
-use mathlib.Core.Path.{ap}
-use mathlib.Core.Logic.{⊎-elim}
+use mathlib.Core.Path.{_≡_, ap, sym, _∙_}
+use Prim.Native.Nat.{ℕ}
+use borrow.Author.Needs.{needs}
+use lib.ListN.{getD}
+use native.Mathlib.Omega.{arith}
 use Rattle.row.specs.Computed.{rowFrom}
+use Rattle.row.specs.Profile.{letterOf}
+use Rattle.row.specs.Table.{table, placeOf}
 use Rattle.row.specs.declared.table.Row.{Row}
 use Rattle.row.specs.declared.table.Found.the-variants as found
-use mathlib.Core.Path.{_≡_, sym, _∙_}
-use Prim.Native.Nat.{_-_, _≤_}
-use borrow.Author.Needs.{needs}
-use lib.ListN.{drop}
-use Rattle.row.specs.Table.{table, firstRow}
-use Rattle.row.proofs.Rows.{numbers, row-at, hit, miss-profile, miss-code, passed}
+use Rattle.row.proofs.Rows.{numbers, row-at, found-at, none-at}
 use Rattle.row.proofs.table.find_row.Statement.{statement}
 use Rattle.row.proofs.table.find_row.Tie as tie
 
-abbrev Inv-loop : tie.InvT-loop
-Inv-loop command letter rows i₀ i = (i ≤ 19) × (firstRow table letter command ≡ firstRow (drop i table) letter command)
+row-place-requires : tie.Need-row-place-requires
+row-place-requires c κs = search needs
 
-abbrev μ-loop : tie.MeasureT-loop
-μ-loop command letter rows i₀ i = 19 - i
+returns : tie.Need-returns
+unfolding table
+returns c =
+    let a = c .before .before .args in
+    let place = c .before .row-place .ensures in
+    sym (none-at table (letterOf (a .profile)) (a .command) (omega (arith, place, c .if1 .taken)))
 
-letter-of-requires : tie.Need-letter-of-requires Inv-loop μ-loop
-letter-of-requires c κs = search needs
-
-loop-holds : tie.Need-loop-holds Inv-loop μ-loop
-loop-holds c = search needs
-
-mul-numbers : tie.Need-mul-numbers Inv-loop μ-loop
+mul-numbers : tie.Need-mul-numbers
 mul-numbers c = search needs
 
-array-copy-out-numbers : tie.Need-array-copy-out-numbers Inv-loop μ-loop
+array-copy-out-numbers : tie.Need-array-copy-out-numbers
 array-copy-out-numbers c = search needs
 
-array-read-if1 : tie.Need-array-read-if1 Inv-loop μ-loop
-array-read-if1 c = search needs
-
-array-read-if2 : tie.Need-array-read-if2 Inv-loop μ-loop
-array-read-if2 c = search needs
-
-row-from-requires : tie.Need-row-from-requires Inv-loop μ-loop
+row-from-requires : tie.Need-row-from-requires
 row-from-requires c κs = search needs
 
-returns : tie.Need-returns Inv-loop μ-loop
+returns-2 : tie.Need-returns-2
 unfolding table numbers
-returns c =
-    let l = c .before .before .before .before .before .loop in
-    let letter = c .before .before .before .before .before .before .letter-of in
-    let line = row-at (l .i) in
-    let here =
-    l .inv .1
-    ∙ hit table (letter .result) _ (l .i) (rowFrom []) (search needs) (ap (λ (r : Row). r .profile) line ∙ c .before .before .if1 .taken) (ap (λ (r : Row). r .code) line ∙ c .before .if2 .taken)
-    ∙ ap found.Row line in
-    ap found.Row (c .row-from .ensures) ∙ sym here ∙ rw (letter .ensures)
-
-add-i : tie.Need-add-i Inv-loop μ-loop
-add-i c = search needs
-
-loop-less : tie.Need-loop-less Inv-loop μ-loop
-loop-less c = search needs
-
-loop-again : tie.Need-loop-again Inv-loop μ-loop
-unfolding table numbers
-loop-again c =
-    let l = c .before .before .before .loop in
-    let letter = c .before .before .before .before .letter-of .result in
-    let line = row-at (l .i) in (
-      search needs,
-      l .inv .1
-          ∙ ⊎-elim
-          (λ w. miss-code table letter _ (l .i) (rowFrom []) (search needs) (ap (λ (r : Row). r .profile) line ∙ w .0 .taken) (λ e. w .1 .left (sym (ap (λ (r : Row). r .code) line) ∙ e)))
-          (λ w. miss-profile table letter _ (l .i) (rowFrom []) (search needs) (λ e. w .left (sym (ap (λ (r : Row). r .profile) line) ∙ e)))
-          (c .if1 .came),
-    )
-
-returns-2 : tie.Need-returns-2 Inv-loop μ-loop
-unfolding table
 returns-2 c =
-    let l = c .before .loop in
-    let letter = c .before .before .letter-of in
-    sym (l .inv .1 ∙ passed table (letter .result) _ (l .i) (rowFrom []) (search needs)) ∙ rw (letter .ensures)
+    let a = c .before .before .before .before .args in
+    let place = c .before .before .before .row-place .ensures in
+    ap found.Row (c .row-from .ensures ∙ sym (row-at (c .before .before .before .row-place .result)) ∙ ap (λ (i : ℕ). getD table i (rowFrom [])) place)
+    ∙ sym (found-at table (letterOf (a .profile)) (a .command) (rowFrom []) (omega (arith, place, c .before .before .if1 .left)))
 
 pub find-row-spec : {M : Type 1} → statement M
-find-row-spec =
-    tie.close
-    (tie.spec
-    Inv-loop
-    μ-loop
-    letter-of-requires
-    loop-holds
-    mul-numbers
-    array-copy-out-numbers
-    array-read-if1
-    array-read-if2
-    row-from-requires
-    returns
-    add-i
-    loop-less
-    loop-again
-    returns-2)
+find-row-spec = tie.close (tie.spec row-place-requires returns mul-numbers array-copy-out-numbers row-from-requires returns-2)

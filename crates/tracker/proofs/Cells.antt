@@ -1,0 +1,98 @@
+-- A cell lies within a tracker.
+use mathlib.Core.Path.{_≡_, refl, ap, sym, _∙_}
+use mathlib.Core.Bool.{Bool, true, false, cond, _||_}
+use mathlib.Core.List.{List, [], _∷_}
+use Prim.Native.Nat.{ℕ, _+_, _-_, _*_, _≤_, _<_}
+use native.Mathlib.Omega.{arith}
+use borrow.Author.Tests.{eqb-false, ltb-true, ltb-false}
+use lib.Dec.{eqb, ltb}
+use lib.ListN.{length, getD}
+use Rattle.frame.proofs.Ruled.{pass-first}
+use Rattle.row.specs.Profile.{letterOf, zonesOf}
+use Rattle.row.specs.Table.{table, rowOf, placeOf}
+use Rattle.row.specs.declared.profile.Profile.{Profile}
+use Rattle.row.specs.declared.profile.Profile.the-variants.{A, S}
+use Rattle.row.specs.declared.table.Row.{Row}
+use Rattle.row.specs.declared.table.Found.the-variants as found
+use Rattle.row.proofs.Rows.{none-at}
+use Rattle.message.specs.Judge.{profileZone, noRow, rowZone, isMissing, rowIn, rowLines, rowJudged}
+use Rattle.message.specs.declared.judge.Judged.{Judged}
+use Rattle.message.specs.declared.judge.Judged.the-variants as judged
+use Rattle.message.proofs.Judges.{judged-legal}
+use Rattle.tracker.specs.Cell.{cellIn, cellOf}
+use Rattle.tracker.specs.declared.cell.Cell.the-variants.{At, NoCell}
+
+neither : (s t : Bool) → s || t ≡ false → (s ≡ false) × (t ≡ false)
+neither true t e = (e, cc)
+neither false t e = (refl, e)
+
+three : (profile : Profile) → zonesOf profile ≤ 3
+three A = omega arith
+three S = omega arith
+
+differ : true ≡ false → ⊥
+differ w = let z : _≡_ {A = ℕ} 0 1 = cc in omega arith
+
+-- a row that is there has a place in the table
+pub row-place : (profile : Profile) (command : ℕ) → isMissing (rowOf profile command) ≡ false → placeOf profile command < 19
+unfolding table
+row-place profile command e = go (ltb (placeOf profile command) 19) refl
+  where
+    go : (t : Bool) → ltb (placeOf profile command) 19 ≡ t → placeOf profile command < 19
+    go true f = ltb-true (placeOf profile command) 19 f
+    go false f =
+        let none : rowOf profile command ≡ found.NoRow = none-at table (letterOf profile) command (ltb-false (placeOf profile command) 19 f) in
+        let missing : true ≡ false = ap isMissing (sym none) ∙ e in absurd (differ missing)
+
+-- where zone and row are legal
+pub record Lies (profile : Profile) (zone command : ℕ) : Type 0 where
+  pub low : 1 ≤ zone
+  pub high : zone ≤ 3
+  pub place : placeOf profile command < 19
+
+pub lies : (profile : Profile) (zone command : ℕ) (row : Row) → rowJudged profile zone command ≡ judged.Legal row → Lies profile zone command
+unfolding rowJudged
+lies profile zone command row e =
+    let there = rowIn (rowOf profile command) in
+    let passes = judged-legal (rowLines profile zone command) there row e .0 in
+    let one = pass-first (profileZone profile zone) (noRow profile command ∷ rowZone there zone ∷ []) passes in
+    let two = pass-first (noRow profile command) (rowZone there zone ∷ []) (one .1) in
+    let zones = neither (eqb zone 0) (ltb (zonesOf profile) zone) (one .0) in
+    let some = eqb-false zone 0 (zones .0) in
+    let most = ltb-false (zonesOf profile) zone (zones .1) in
+    record {
+      low = omega (arith, some);
+      high = omega (arith, most, three profile);
+      place = row-place profile command (two .0);
+    }
+
+pub cell-number : (n i : ℕ) → At n ≡ At i → n ≡ i
+cell-number n i f = cc
+
+pub no-cell : (i : ℕ) → NoCell ≡ At i → ⊥
+no-cell i f = let z : _≡_ {A = ℕ} 0 1 = cc in omega arith
+
+-- where a cell is, its zone and row are legal and the row is none of pairs
+pub cell-place : (profile : Profile) (zone command i : ℕ) → cellOf profile zone command ≡ At i → Lies profile zone command × (placeOf profile command * 3 + zone - 1 ≡ i)
+unfolding cellOf
+cell-place profile zone command i e = go (rowJudged profile zone command) (lies profile zone command) e
+  where
+    half : (t : Bool) → Lies profile zone command → cond t NoCell (At (placeOf profile command * 3 + zone - 1)) ≡ At i → Lies profile zone command × (placeOf profile command * 3 + zone - 1 ≡ i)
+    half true l f = absurd (no-cell i f)
+    half false l f = (l, cell-number (placeOf profile command * 3 + zone - 1) i f)
+
+    go : (j : Judged) → ((row : Row) → j ≡ judged.Legal row → Lies profile zone command) → cellIn j (placeOf profile command) zone ≡ At i → Lies profile zone command × (placeOf profile command * 3 + zone - 1 ≡ i)
+    go (judged.Legal row) l f = half (row .pair) (l row refl) f
+    go (judged.Refused n) l f = absurd (no-cell i f)
+
+-- a cell is one of the tracker's
+pub within : (profile : Profile) (zone command i : ℕ) → cellOf profile zone command ≡ At i → i < 57
+within profile zone command i e =
+    let w = cell-place profile zone command i e in
+    let l = w .0 in
+    omega (arith, l .low, l .high, l .place, w .1)
+
+-- no data have no first byte
+pub none-first : (xs : List ℕ) → length xs ≡ 0 → 0 ≡ getD xs 0 0
+none-first [] e = refl
+none-first (x ∷ xs) e = absurd (omega (arith, e))

@@ -1,0 +1,37 @@
+-- `tracker::feed::feed` meets its contract.
+use borrow.Author.Needs.{needs}
+use Rattle.tracker.proofs.feed.feed.Statement.{statement}
+use Rattle.tracker.proofs.feed.feed.Tie as tie
+
+read-message-requires : tie.Need-read-message-requires
+read-message-requires c κs = search needs
+
+enum-known-reading : tie.Need-enum-known-reading
+enum-known-reading c = search needs
+
+enum-told : tie.Need-enum-told
+enum-told c = search needs
+
+returns : tie.Need-returns
+returns c = rw (← c .before .before .read-message .ensures, c .enum-told .given .1)
+
+first-byte-requires : tie.Need-first-byte-requires
+first-byte-requires c κs = search needs
+
+with-message-requires : tie.Need-with-message-requires
+with-message-requires c κs = search needs
+
+returns-2 : tie.Need-returns-2
+returns-2 c = rw (← c .before .before .before .before .before .read-message .ensures, c .before .before .before .reading .given .1, c .with-message .ensures, c .before .first-byte .ensures)
+
+pub feed-spec : {M : Type 1} → statement M
+feed-spec =
+    tie.close
+    (tie.spec
+    read-message-requires
+    enum-known-reading
+    enum-told
+    returns
+    first-byte-requires
+    with-message-requires
+    returns-2)

@@ -1,0 +1,36 @@
+-- Document 01, 'Tracker': "A status answer, one accepted with Ac 00, makes its one cell known; a denied message, S 0F and a
+-- refused frame change nothing." "Answers .. are read under the tracker's profile".
+use Prim.Native.Nat.{ℕ}
+use mathlib.Core.List.{List}
+use lib.ListN.{getD, set}
+use Rattle.frame.specs.declared.direction.Direction.the-variants as direction
+use Rattle.message.specs.Message.{readOf}
+use Rattle.message.specs.declared.read.Message.{Message}
+use Rattle.message.specs.declared.read.Message.the-variants as message
+use Rattle.message.specs.declared.read.Reading.{Reading}
+use Rattle.message.specs.declared.read.Reading.the-variants as reading
+use Rattle.tracker.specs.Cell.{cellOf}
+use Rattle.tracker.specs.declared.cell.Cell.{Cell}
+use Rattle.tracker.specs.declared.cell.Cell.the-variants as cell
+use Rattle.tracker.specs.declared.kept.Tracker.{Tracker}
+use Rattle.tracker.specs.declared.feed.Fed.{Fed}
+
+-- one cell made known
+abbrev pub put : Tracker → Cell → ℕ → Tracker
+put t (cell.At i) b = record { profile = t .profile; states = set (t .states) i 1; values = set (t .values) i b }
+put t cell.NoCell b = t
+
+-- what a message tells, with the first byte of its data
+abbrev pub told : Tracker → Message → ℕ → Tracker
+told t (message.Command s) b = t
+told t (message.Status s) b = put t (cellOf (t .profile) (s .zone) (s .command)) b
+told t (message.Denied d) b = t
+
+abbrev pub heard : Tracker → Reading → ℕ → Tracker
+heard t (reading.Message m) b = told t m b
+heard t (reading.Refused n) b = t
+
+abbrev pub fed : Tracker → ℕ → ℕ → ℕ → List ℕ → Fed
+fed t zone command ac body =
+    let r = readOf (t .profile) direction.Answer zone command ac body in
+    record { tracker = heard t r (getD body 0 0); reading = r }

@@ -1,0 +1,73 @@
+use crate::cell::Cell;
+use crate::cell::cell_of;
+use crate::kept::KNOWN;
+use crate::kept::Tracker;
+use frame::direction::Direction;
+use message::read::Message;
+use message::read::Reading;
+use message::read::read_message;
+ghost use mathlib.Core.Path.{_≡_};
+ghost use lib.ListN.{getD};
+ghost use Rattle.tracker.specs.Cell.{cellOf};
+ghost use Rattle.tracker.specs.Feed.{put, told, fed};
+
+// A tracker once it was fed, and what was fed: the message, or the number of the refusal.
+pub struct Fed {
+    pub tracker: Tracker,
+    pub reading: Reading,
+}
+
+// Feeds what an answer's frame brings, read under the tracker's own profile.
+pub fn feed(tracker: Tracker, zone: u8, command: u8, answer: u8, body: &[u8]) -> Fed
+    ensures { λ r. ⌜ r ≡ fed tracker zone command answer (now (body .entry)) ⌝ }
+{
+    let profile = tracker.profile;
+    let reading = read_message(profile, Direction::Answer, zone, command, answer, body);
+    let Reading::Message(message) = reading else {
+        return Fed {
+            tracker: tracker,
+            reading: reading,
+        };
+    };
+    let byte = first_byte(body);
+    let next = with_message(tracker, message, byte);
+    Fed {
+        tracker: next,
+        reading: Reading::Message(message),
+    }
+}
+
+// A status makes its one cell known; a denied message changes nothing.
+fn with_message(tracker: Tracker, message: Message, byte: u8) -> Tracker
+    ensures { λ r. ⌜ r ≡ told tracker message byte ⌝ }
+{
+    match message {
+        Message::Command(_) => tracker,
+        Message::Status(said) => with_status(tracker, said.zone, said.command, byte),
+        Message::Denied(_) => tracker,
+    }
+}
+
+fn with_status(tracker: Tracker, zone: u8, command: u8, byte: u8) -> Tracker
+    ensures { λ r. ⌜ r ≡ put tracker (cellOf (tracker .profile) zone command) byte ⌝ }
+{
+    let profile = tracker.profile;
+    let cell = cell_of(profile, zone, command);
+    let Cell::At(at) = cell else {
+        return tracker;
+    };
+    let mut next = tracker;
+    next.states[at] = KNOWN;
+    next.values[at] = byte;
+    next
+}
+
+// The first byte of some data; 0 where there is none.
+fn first_byte(body: &[u8]) -> u8
+    ensures { λ r. ⌜ r ≡ getD (now (body .entry)) 0 0 ⌝ }
+{
+    if body.len() == 0 {
+        return 0;
+    }
+    body[0]
+}
