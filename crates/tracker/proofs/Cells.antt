@@ -14,8 +14,8 @@ use Rattle.row.specs.declared.profile.Profile.{Profile}
 use Rattle.row.specs.declared.profile.Profile.the-variants.{A, S}
 use Rattle.row.specs.declared.table.Row.{Row}
 use Rattle.row.specs.declared.table.Found.the-variants as found
-use Rattle.row.proofs.Rows.{none-at}
-use Rattle.message.specs.Judge.{profileZone, noRow, rowZone, isMissing, rowIn, rowLines, rowJudged}
+use Rattle.row.proofs.Rows.{none-at, code-at}
+use Rattle.message.specs.Judge.{blank, profileZone, noRow, rowZone, isMissing, rowIn, rowLines, rowJudged}
 use Rattle.message.specs.declared.judge.Judged.{Judged}
 use Rattle.message.specs.declared.judge.Judged.the-variants as judged
 use Rattle.message.proofs.Judges.{judged-legal}
@@ -66,31 +66,55 @@ lies profile zone command row e =
       place = row-place profile command (two .0);
     }
 
+pub the-row : (profile : Profile) (zone command : ℕ) (row : Row) → rowJudged profile zone command ≡ judged.Legal row → row ≡ rowIn (rowOf profile command)
+unfolding rowJudged
+the-row profile zone command row e = judged-legal (rowLines profile zone command) (rowIn (rowOf profile command)) row e .1
+
 pub cell-number : (n i : ℕ) → At n ≡ At i → n ≡ i
 cell-number n i f = cc
 
 pub no-cell : (i : ℕ) → NoCell ≡ At i → ⊥
 no-cell i f = let z : _≡_ {A = ℕ} 0 1 = cc in omega arith
 
--- where a cell is, its zone and row are legal and the row is none of pairs
-pub cell-place : (profile : Profile) (zone command i : ℕ) → cellOf profile zone command ≡ At i → Lies profile zone command × (placeOf profile command * 3 + zone - 1 ≡ i)
-unfolding cellOf
-cell-place profile zone command i e = go (rowJudged profile zone command) (lies profile zone command) e
-  where
-    half : (t : Bool) → Lies profile zone command → cond t NoCell (At (placeOf profile command * 3 + zone - 1)) ≡ At i → Lies profile zone command × (placeOf profile command * 3 + zone - 1 ≡ i)
-    half true l f = absurd (no-cell i f)
-    half false l f = (l, cell-number (placeOf profile command * 3 + zone - 1) i f)
+-- where a cell is: zone and row are legal, and the row is none of pairs
+pub record Placed (profile : Profile) (zone command i : ℕ) : Type 0 where
+  pub legal : Lies profile zone command
+  pub single : rowIn (rowOf profile command) .pair ≡ false
+  pub number : placeOf profile command * 3 + zone - 1 ≡ i
 
-    go : (j : Judged) → ((row : Row) → j ≡ judged.Legal row → Lies profile zone command) → cellIn j (placeOf profile command) zone ≡ At i → Lies profile zone command × (placeOf profile command * 3 + zone - 1 ≡ i)
-    go (judged.Legal row) l f = half (row .pair) (l row refl) f
+pub placed : (profile : Profile) (zone command i : ℕ) → cellOf profile zone command ≡ At i → Placed profile zone command i
+unfolding cellOf
+placed profile zone command i e = go (rowJudged profile zone command) (λ row f. (lies profile zone command row f, the-row profile zone command row f)) e
+  where
+    half : (row : Row) (t : Bool) → row .pair ≡ t → Lies profile zone command × (row ≡ rowIn (rowOf profile command))
+        → cond t NoCell (At (placeOf profile command * 3 + zone - 1)) ≡ At i → Placed profile zone command i
+    half row true p l f = absurd (no-cell i f)
+    half row false p l f = record { legal = l .0; single = ap (λ (r : Row). r .pair) (sym (l .1)) ∙ p; number = cell-number (placeOf profile command * 3 + zone - 1) i f }
+
+    go : (j : Judged) → ((row : Row) → j ≡ judged.Legal row → Lies profile zone command × (row ≡ rowIn (rowOf profile command)))
+        → cellIn j (placeOf profile command) zone ≡ At i → Placed profile zone command i
+    go (judged.Legal row) l f = half row (row .pair) refl (l row refl) f
     go (judged.Refused n) l f = absurd (no-cell i f)
 
 -- a cell is one of the tracker's
 pub within : (profile : Profile) (zone command i : ℕ) → cellOf profile zone command ≡ At i → i < 57
 within profile zone command i e =
-    let w = cell-place profile zone command i e in
-    let l = w .0 in
-    omega (arith, l .low, l .high, l .place, w .1)
+    let p = placed profile zone command i e in
+    let l = p .legal in
+    omega (arith, l .low, l .high, l .place, p .number)
+
+-- two cells in one place are of one zone and row
+pub same-cell : (profile : Profile) (zone command z c i : ℕ) → cellOf profile zone command ≡ At i → cellOf profile z c ≡ At i → (z ≡ zone) × (c ≡ command)
+unfolding table
+same-cell profile zone command z c i e f =
+    let p = placed profile zone command i e in
+    let q = placed profile z c i f in
+    let l = p .legal in
+    let m = q .legal in
+    let place : placeOf profile c ≡ placeOf profile command = omega (arith, l .low, l .high, m .low, m .high, p .number, q .number) in
+    let here = code-at table (letterOf profile) command blank (l .place) in
+    let there = code-at table (letterOf profile) c blank (m .place) in
+    (omega (arith, l .low, l .high, m .low, m .high, p .number, q .number), sym there ∙ ap (λ (k : ℕ). getD table k blank .code) place ∙ here)
 
 -- no data have no first byte
 pub none-first : (xs : List ℕ) → length xs ≡ 0 → 0 ≡ getD xs 0 0

@@ -9,6 +9,7 @@ use Rattle.message.specs.Message.{readOf}
 use Rattle.tracker.specs.Cell.{cellOf}
 use Rattle.tracker.specs.Kept.{fresh, keptIn}
 use Rattle.tracker.specs.Feed.{fed}
+use Rattle.tracker.specs.declared.cell.Cell.the-variants.{At}
 use Rattle.tracker.specs.declared.kept.Tracker.{Tracker}
 use Rattle.tracker.specs.declared.kept.Kept.the-variants.{Value, Unknown, NoCell}
 
@@ -17,6 +18,10 @@ after t zone command ac body = fed t zone command ac body .tracker
 
 abbrev levelled : Tracker
 levelled = after (fresh A) 2 0x39 0x00 (0xFF ∷ [])
+
+pub has-cell : cellOf A 2 0x39 ≡ At 16
+unfolding cellOf rowJudged firstRow firstPlace table
+has-cell = refl
 
 -- FF is a value like any other; the zone beside it stays unknown
 pub status-known : keptIn levelled 2 0x39 ≡ Value 0xFF

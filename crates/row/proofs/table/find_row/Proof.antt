@@ -1,13 +1,13 @@
 -- `row::table::find_row` meets its contract.
 use mathlib.Core.List.{[]}
-use mathlib.Core.Path.{_≡_, ap, sym, _∙_}
+use mathlib.Core.Path.{ap, sym, _∙_}
 use Prim.Native.Nat.{ℕ}
 use borrow.Author.Needs.{needs}
 use lib.ListN.{getD}
 use native.Mathlib.Omega.{arith}
 use Rattle.row.specs.Computed.{rowFrom}
 use Rattle.row.specs.Profile.{letterOf}
-use Rattle.row.specs.Table.{table, placeOf}
+use Rattle.row.specs.Table.{table}
 use Rattle.row.specs.declared.table.Row.{Row}
 use Rattle.row.specs.declared.table.Found.the-variants as found
 use Rattle.row.proofs.Rows.{numbers, row-at, found-at, none-at}

@@ -1,0 +1,156 @@
+-- What an answer makes of a tracker.
+use mathlib.Core.Path.{_≡_, refl, ap, sym, _∙_}
+use mathlib.Core.Bool.{Bool, true, false, cond, not, _&&_}
+use mathlib.Core.List.{List, [], _∷_}
+use Prim.Native.Nat.{ℕ}
+use native.Mathlib.Omega.{arith}
+use borrow.Author.Tests.{eqb-true}
+use lib.Dec.{eqb}
+use lib.ListN.{length, getD}
+use lib.Seq.{getD-set-same, getD-set-other}
+use Rattle.frame.specs.Raw.{tooLong}
+use Rattle.frame.specs.declared.direction.Direction.the-variants.{Answer}
+use Rattle.frame.proofs.Ruled.{refuses, was-accepted, pass-first}
+use Rattle.row.specs.Profile.{letterOf}
+use Rattle.row.specs.Table.{table, rowOf}
+use Rattle.row.specs.declared.profile.Profile.{Profile}
+use Rattle.row.specs.declared.table.Row.{Row}
+use Rattle.row.specs.declared.table.Found.{Found}
+use Rattle.row.specs.declared.table.Found.the-variants as found
+use Rattle.row.proofs.Rows.{Each, each-found}
+use Rattle.message.specs.Judge.{isAnswer, lengthOf, valueOf, isMissing, rowIn, judgeLines}
+use Rattle.message.specs.Message.{isDenial, wrongCode, said, denial, messageOf, readLines, readOf}
+use Rattle.message.specs.declared.read.Said.{Said}
+use Rattle.message.specs.declared.read.Message.{Message}
+use Rattle.message.specs.declared.read.Message.the-variants as message
+use Rattle.message.specs.declared.read.Reading.{Reading}
+use Rattle.message.specs.declared.read.Reading.the-variants as reading
+use Rattle.message.proofs.Judges.{Passes, judge-passes}
+use Rattle.tracker.specs.Cell.{cellOf}
+use Rattle.tracker.specs.Kept.{isSpoilt, spoiltAt, spoiltIn, keptAt, keptIn}
+use Rattle.tracker.specs.Feed.{put, heard}
+use Rattle.tracker.specs.FeedPromise.{Whole, answered, after, FeedPromise}
+use Rattle.tracker.specs.declared.cell.Cell.{Cell}
+use Rattle.tracker.specs.declared.cell.Cell.the-variants as cell
+use Rattle.tracker.specs.declared.kept.Tracker.{Tracker}
+use Rattle.tracker.specs.declared.kept.Kept.the-variants.{Value, NoCell}
+use Rattle.tracker.proofs.Cells.{placed, within, same-cell}
+
+-- a status brings the zone and command that were fed, and none of the lines applies to it
+record Brings (profile : Profile) (zone command : ℕ) (body : List ℕ) (s : Said) : Type 0 where
+  its-zone : s .zone ≡ zone
+  its-command : s .command ≡ command
+  passes : Passes profile Answer zone command body
+
+brings : (profile : Profile) (zone command ac : ℕ) (body : List ℕ) (s : Said) → readOf profile Answer zone command ac body ≡ reading.Message (message.Status s)
+    → Brings profile zone command body s
+unfolding readOf
+brings profile zone command ac body s e =
+    let w = was-accepted (readLines profile Answer zone command ac body) reading.Refused (reading.Message (messageOf profile Answer zone command ac body)) (reading.Message (message.Status s)) e differ in
+    go (isDenial ac) (w .0) (w .1)
+  where
+    differ : (n : ℕ) → reading.Refused n ≡ reading.Message (message.Status s) → ⊥
+    differ n f = let z : _≡_ {A = ℕ} 0 1 = cc in omega arith
+
+    go : (t : Bool) → refuses (wrongCode ac ∷ cond t (tooLong body ∷ []) (judgeLines profile Answer zone command body)) ≡ false
+        → reading.Message (cond t (message.Denied (denial zone command ac)) (message.Status (said profile Answer zone command body))) ≡ reading.Message (message.Status s)
+        → Brings profile zone command body s
+    go true r f = let z : _≡_ {A = ℕ} 0 1 = cc in absurd (omega arith)
+    go false r f =
+        let same : said profile Answer zone command body ≡ s = cc in
+        record {
+          its-zone = ap (λ (x : Said). x .zone) (sym same);
+          its-command = ap (λ (x : Said). x .command) (sym same);
+          passes = judge-passes profile Answer zone command body (pass-first (wrongCode ac) (judgeLines profile Answer zone command body) r .1);
+        }
+
+-- the data of an answer in a row that is none of pairs are one byte, which the row has as an answer
+one-long : (row : Row) (n : ℕ) → row .pair ≡ false → lengthOf Answer row n ≡ true → n ≡ 1
+one-long row n p l = go (eqb n 2) (eqb n 1) refl l
+  where
+    go : (two one : Bool) → eqb n 1 ≡ one → cond two (row .pair) (one && not (row .pair)) ≡ true → n ≡ 1
+    go true one e f = let z : _≡_ {A = Bool} false true = sym p ∙ f in let w : _≡_ {A = ℕ} 0 1 = cc in absurd (omega arith)
+    go false true e f = eqb-true n 1 e
+    go false false e f = let w : _≡_ {A = ℕ} 0 1 = cc in absurd (omega arith)
+
+one-byte : (row : Row) (body : List ℕ) → length body ≡ 1 → valueOf Answer row body ≡ true → (b : ℕ) × (body ≡ b ∷ []) × (isAnswer row b ≡ true)
+one-byte row [] l v = absurd (omega (arith, l))
+one-byte row (b ∷ []) l v = (b, refl, v)
+one-byte row (a ∷ b ∷ rest) l v = absurd (omega (arith, l))
+
+-- an answer of a row is never taken for spoilt: a sheet row's answers are its settings
+abbrev Unspoilt : Row → Type 0
+Unspoilt r = (b : ℕ) → isAnswer r b ≡ true → isSpoilt r b ≡ false
+
+unspoilt-rows : Each Unspoilt table
+unfolding table
+unspoilt-rows = (λ b e. refl, (λ b e. refl, (λ b e. refl, (λ b e. refl, (λ b e. ap not e, (λ b e. ap not e, (λ b e. ap not e, (λ b e. refl, (λ b e. ap not e, (λ b e. ap not e, (λ b e. ap not e, (λ b e. ap not e, (λ b e. refl, (λ b e. refl, (λ b e. refl, (λ b e. refl, (λ b e. refl, (λ b e. ap not e, (λ b e. ap not e, tt)))))))))))))))))))
+
+the-found : (f : Found) → isMissing f ≡ false → f ≡ found.Row (rowIn f)
+the-found (found.Row row) e = refl
+the-found found.NoRow e = let z : _≡_ {A = ℕ} 0 1 = cc in absurd (omega arith)
+
+unspoilt : (profile : Profile) (command b : ℕ) → isMissing (rowOf profile command) ≡ false → isAnswer (rowIn (rowOf profile command)) b ≡ true → spoiltIn profile command b ≡ false
+unspoilt profile command b m a =
+    let there = the-found (rowOf profile command) m in
+    ap (λ (f : Found). spoiltAt f b) there ∙ each-found Unspoilt table (letterOf profile) command (rowIn (rowOf profile command)) unspoilt-rows there b a
+
+-- a cell that is made known
+module _ (t : Tracker) (zone command i b : ℕ) (e : cellOf (t .profile) zone command ≡ cell.At i) where
+  put-known : Whole t → spoiltIn (t .profile) command b ≡ false → keptIn (put t (cell.At i) b) zone command ≡ Value b
+  unfolding keptIn
+  put-known w s =
+      let h = within (t .profile) zone command i e in
+      rw (e, getD-set-same (t .states) i 1 0 (omega (arith, h, w .0)), getD-set-same (t .values) i b 0 (omega (arith, h, w .1)), s)
+
+  put-others : (z c : ℕ) → ((z ≡ zone) × (c ≡ command) → ⊥) → keptIn (put t (cell.At i) b) z c ≡ keptIn t z c
+  unfolding keptIn
+  put-others z c other = go (cellOf (t .profile) z c) refl
+    where
+      go : (k : Cell) → cellOf (t .profile) z c ≡ k → keptAt (put t (cell.At i) b) k c ≡ keptAt t k c
+      go cell.NoCell f = refl
+      go (cell.At j) f =
+          let apart : j ≡ i → ⊥ = λ g. other (same-cell (t .profile) zone command z c i e (f ∙ ap cell.At g)) in
+          rw (getD-set-other (t .states) i j 1 0 apart, getD-set-other (t .values) i j b 0 apart)
+
+module _ (t : Tracker) (zone command ac : ℕ) (body : List ℕ) where
+  abbrev first : ℕ
+  first = getD body 0 0
+
+  -- after a status the tracker has its cell put
+  pub after-status : (s : Said) → answered t zone command ac body ≡ reading.Message (message.Status s)
+      → after t zone command ac body ≡ put t (cellOf (t .profile) zone command) first
+  after-status s e =
+      let br = brings (t .profile) zone command ac body s e in
+      ap (λ (r : Reading). heard t r first) e ∙ rw (br .its-zone, br .its-command)
+
+  pub settle : (P : Tracker → Type 0) → P t → ((s : Said) → answered t zone command ac body ≡ reading.Message (message.Status s) → P (after t zone command ac body)) → P (after t zone command ac body)
+  settle P same status = go (answered t zone command ac body) refl status
+    where
+      go : (r : Reading) → answered t zone command ac body ≡ r
+          → ((s : Said) → r ≡ reading.Message (message.Status s) → P (heard t r first)) → P (heard t r first)
+      go (reading.Message (message.Command s)) e f = same
+      go (reading.Message (message.Status s)) e f = f s refl
+      go (reading.Message (message.Denied d)) e f = same
+      go (reading.Refused n) e f = same
+
+  -- wherever the cell is, or is not, the others stay
+  put-cell : (k : Cell) → cellOf (t .profile) zone command ≡ k → (z c : ℕ) → ((z ≡ zone) × (c ≡ command) → ⊥) → keptIn (put t k first) z c ≡ keptIn t z c
+  put-cell cell.NoCell e z c other = refl
+  put-cell (cell.At i) e z c other = put-others t zone command i first e z c other
+
+pub feed-promise : (t : Tracker) (zone command ac : ℕ) (body : List ℕ) → FeedPromise t zone command ac body
+feed-promise t zone command ac body = record {
+  refused = λ n e. ap (λ (r : Reading). heard t r (getD body 0 0)) e;
+  denied = λ d e. ap (λ (r : Reading). heard t r (getD body 0 0)) e;
+  left-out = λ e. settle t zone command ac body (λ x. x ≡ t) refl (λ s f. after-status t zone command ac body s f ∙ ap (λ (k : Cell). put t k (getD body 0 0)) e);
+  known = λ w s f i e.
+      let br = brings (t .profile) zone command ac body s f in
+      let p = placed (t .profile) zone command i e in
+      let passes = br .passes in
+      let one = one-byte (rowIn (rowOf (t .profile) command)) body (one-long (rowIn (rowOf (t .profile) command)) (length body) (p .single) (passes .long)) (passes .value) in
+      let at : after t zone command ac body ≡ put t (cell.At i) (one .0) =
+      after-status t zone command ac body s f ∙ ap (λ (k : Cell). put t k (getD body 0 0)) e ∙ ap (λ (xs : List ℕ). put t (cell.At i) (getD xs 0 0)) (one .1) in
+      (one .0, one .1, ap (λ (x : Tracker). keptIn x zone command) at ∙ put-known t zone command i (one .0) e w (unspoilt (t .profile) command (one .0) (passes .found) (one .2)));
+  others = λ z c other. settle t zone command ac body (λ x. keptIn x z c ≡ keptIn t z c) refl (λ s f. ap (λ (x : Tracker). keptIn x z c) (after-status t zone command ac body s f) ∙ put-cell t zone command ac body (cellOf (t .profile) zone command) refl z c other);
+}

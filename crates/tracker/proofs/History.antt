@@ -1,0 +1,163 @@
+-- What a tracker knows after any answers.
+use mathlib.Core.Path.{_≡_, refl, ap, sym, _∙_, subst}
+use mathlib.Core.Bool.{Bool, true, false}
+use mathlib.Core.List.{List, [], _∷_, _++_}
+use mathlib.Core.Logic.{_⊎_, inl, inr}
+use Prim.Native.Nat.{ℕ, zero, suc}
+use native.Mathlib.Omega.{arith}
+use borrow.Author.Tests.{eqb-true, eqb-false}
+use lib.Dec.{eqb}
+use lib.ListN.{length-set, getD, replicate}
+use Rattle.frame.specs.declared.direction.Direction.the-variants.{Answer}
+use Rattle.row.specs.declared.profile.Profile.{Profile}
+use Rattle.message.specs.Message.{readOf}
+use Rattle.message.specs.declared.read.Said.{Said}
+use Rattle.message.specs.declared.read.Denial.{Denial}
+use Rattle.message.specs.declared.read.Message.the-variants as message
+use Rattle.message.specs.declared.read.Reading.{Reading}
+use Rattle.message.specs.declared.read.Reading.the-variants as reading
+use Rattle.tracker.specs.Cell.{cellOf}
+use Rattle.tracker.specs.Kept.{fresh, keptIn}
+use Rattle.tracker.specs.Feed.{put}
+use Rattle.tracker.specs.FeedPromise.{Whole, after}
+use Rattle.tracker.specs.HistoryPromise.{Brought, fedAll, IsStatus, NoneOf, Last, HistoryPromise}
+use Rattle.tracker.specs.declared.cell.Cell.{Cell}
+use Rattle.tracker.specs.declared.cell.Cell.the-variants as cell
+use Rattle.tracker.specs.declared.kept.Tracker.{Tracker}
+use Rattle.tracker.specs.declared.kept.Kept.the-variants.{Value, Unknown}
+use Rattle.tracker.proofs.Feeds.{settle, after-status, feed-promise}
+
+-- a tracker of a profile with all of its cells
+abbrev Fit : Profile → Tracker → Type 0
+Fit profile t = (t .profile ≡ profile) × Whole t
+
+fit-put : (profile : Profile) (t : Tracker) (k : Cell) (b : ℕ) → Fit profile t → Fit profile (put t k b)
+fit-put profile t cell.NoCell b f = f
+fit-put profile t (cell.At i) b f = (f .0, (length-set (t .states) i 1 ∙ f .1 .0, length-set (t .values) i b ∙ f .1 .1))
+
+abbrev next : Tracker → Brought → Tracker
+next t a = after t (a .zone) (a .command) (a .answer) (a .body)
+
+fit-next : (profile : Profile) (t : Tracker) (a : Brought) → Fit profile t → Fit profile (next t a)
+fit-next profile t a f =
+    settle t (a .zone) (a .command) (a .answer) (a .body) (Fit profile) f
+    (λ s e. subst (Fit profile) (sym (after-status t (a .zone) (a .command) (a .answer) (a .body) s e)) (fit-put profile t (cellOf (t .profile) (a .zone) (a .command)) (getD (a .body) 0 0) f))
+
+fit-all : (profile : Profile) (t : Tracker) (fs : List Brought) → Fit profile t → Fit profile (fedAll t fs)
+unfolding fedAll
+fit-all profile t [] f = f
+fit-all profile t (a ∷ fs) f = fit-all profile (next t a) fs (fit-next profile t a f)
+
+fed-append : (t : Tracker) (fs bs : List Brought) → fedAll t (fs ++ bs) ≡ fedAll (fedAll t fs) bs
+unfolding fedAll
+fed-append t [] bs = refl
+fed-append t (a ∷ fs) bs = fed-append (next t a) fs bs
+
+one-byte-same : (a b : ℕ) → _≡_ {A = List ℕ} (a ∷ []) (b ∷ []) → a ≡ b
+one-byte-same a b e = cc
+
+getD-replicate : (n i : ℕ) → _≡_ {A = ℕ} (getD (replicate n 0) i 0) 0
+getD-replicate zero i = refl
+getD-replicate (suc n) zero = refl
+getD-replicate (suc n) (suc i) = getD-replicate n i
+
+command-differs : (x s : Said) → reading.Message (message.Command x) ≡ reading.Message (message.Status s) → ⊥
+command-differs x s e = let z : _≡_ {A = ℕ} 0 1 = cc in omega arith
+
+denial-differs : (d : Denial) (s : Said) → reading.Message (message.Denied d) ≡ reading.Message (message.Status s) → ⊥
+denial-differs d s e = let z : _≡_ {A = ℕ} 0 1 = cc in omega arith
+
+refusal-differs : (n : ℕ) (s : Said) → reading.Refused n ≡ reading.Message (message.Status s) → ⊥
+refusal-differs n s e = let z : _≡_ {A = ℕ} 0 1 = cc in omega arith
+
+module _ (profile : Profile) (zone command : ℕ) where
+  abbrev reads : Profile → Brought → Reading
+  reads p a = readOf p Answer (a .zone) (a .command) (a .answer) (a .body)
+
+  -- an answer that is no status of the zone and command leaves what is known of them
+  step-stays : (t : Tracker) (a : Brought) → t .profile ≡ profile → (IsStatus profile zone command a → ⊥) → keptIn (next t a) zone command ≡ keptIn t zone command
+  step-stays t a p none =
+      settle t (a .zone) (a .command) (a .answer) (a .body) (λ x. keptIn x zone command ≡ keptIn t zone command) refl
+      (λ s e. feed-promise t (a .zone) (a .command) (a .answer) (a .body) .others zone command (λ w. none (sym (w .0), sym (w .1), (s, ap (λ (q : Profile). reads q a) (sym p) ∙ e))))
+
+  stays : (t : Tracker) (fs : List Brought) → Fit profile t → NoneOf profile zone command fs → keptIn (fedAll t fs) zone command ≡ keptIn t zone command
+  unfolding fedAll
+  stays t [] f none = refl
+  stays t (a ∷ fs) f none = stays (next t a) fs (fit-next profile t a f) (none .1) ∙ step-stays t a (f .0) (none .0)
+
+  -- in a row and zone that have a cell
+  module _ (i : ℕ) (kept : cellOf profile zone command ≡ cell.At i) where
+    abbrev Knows : Tracker → Brought → Type 0
+    Knows t a = (b : ℕ) × (a .body ≡ b ∷ []) × (keptIn (next t a) zone command ≡ Value b)
+
+    -- a status makes its byte known
+    step-known : (t : Tracker) (a : Brought) → Fit profile t → IsStatus profile zone command a → Knows t a
+    step-known t a f w =
+        let here : cellOf (t .profile) (a .zone) (a .command) ≡ cell.At i = rw (f .0, w .0, w .1) kept in
+        let read : reads (t .profile) a ≡ reading.Message (message.Status (w .2 .0)) = ap (λ (q : Profile). reads q a) (f .0) ∙ w .2 .1 in
+        let k = feed-promise t (a .zone) (a .command) (a .answer) (a .body) .known (f .1) (w .2 .0) read i here in
+        (k .0, k .1, ap (λ (z : ℕ). keptIn (next t a) z command) (sym (w .0)) ∙ ap (λ (c : ℕ). keptIn (next t a) (a .zone) c) (sym (w .1)) ∙ k .2)
+
+    fit-fresh : Fit profile (fresh profile)
+    fit-fresh = (refl, (refl, refl))
+
+    fresh-unknown : keptIn (fresh profile) zone command ≡ Unknown
+    unfolding keptIn
+    fresh-unknown = rw (kept, getD-replicate 57 i)
+
+    last-known : (fs : List Brought) (b : ℕ) → Last profile zone command fs b → keptIn (fedAll (fresh profile) fs) zone command ≡ Value b
+    unfolding fedAll
+    last-known fs b l =
+        let t = fedAll (fresh profile) (l .before) in
+        let f = fit-all profile (fresh profile) (l .before) fit-fresh in
+        let k = step-known t (l .answer) f (l .status) in
+        let same : k .0 ≡ b = one-byte-same (k .0) b (sym (k .1) ∙ l .byte) in
+        ap (λ (gs : List Brought). keptIn (fedAll (fresh profile) gs) zone command) (l .whole)
+        ∙ ap (λ (x : Tracker). keptIn x zone command) (fed-append (fresh profile) (l .before) (l .answer ∷ l .later))
+        ∙ stays (next t (l .answer)) (l .later) (fit-next profile t (l .answer) f) (l .none)
+        ∙ k .2
+        ∙ ap Value same
+
+    decided : (a : Brought) → IsStatus profile zone command a ⊎ (IsStatus profile zone command a → ⊥)
+    decided a = go (eqb (a .zone) zone) (eqb (a .command) command) (reads profile a) refl refl refl
+      where
+        go : (s t : Bool) (r : Reading) → eqb (a .zone) zone ≡ s → eqb (a .command) command ≡ t → reads profile a ≡ r
+            → IsStatus profile zone command a ⊎ (IsStatus profile zone command a → ⊥)
+        go false t r e f g = inr (λ w. eqb-false (a .zone) zone e (w .0))
+        go true false r e f g = inr (λ w. eqb-false (a .command) command f (w .1))
+        go true true (reading.Message (message.Status s)) e f g = inl (eqb-true (a .zone) zone e, eqb-true (a .command) command f, (s, g))
+        go true true (reading.Message (message.Command s)) e f g = inr (λ w. command-differs s (w .2 .0) (sym g ∙ w .2 .1))
+        go true true (reading.Message (message.Denied d)) e f g = inr (λ w. denial-differs d (w .2 .0) (sym g ∙ w .2 .1))
+        go true true (reading.Refused n) e f g = inr (λ w. refusal-differs n (w .2 .0) (sym g ∙ w .2 .1))
+
+    either : (fs : List Brought) → NoneOf profile zone command fs ⊎ ((b : ℕ) × Last profile zone command fs b)
+    either [] = inl tt
+    either (a ∷ fs) = go (either fs) (decided a)
+      where
+        go : NoneOf profile zone command fs ⊎ ((b : ℕ) × Last profile zone command fs b) → IsStatus profile zone command a ⊎ (IsStatus profile zone command a → ⊥)
+            → NoneOf profile zone command (a ∷ fs) ⊎ ((b : ℕ) × Last profile zone command (a ∷ fs) b)
+        go (inr l) d =
+            inr (
+              l .0,
+              record {
+                before = a ∷ l .1 .before;
+                answer = l .1 .answer;
+                later = l .1 .later;
+                whole = ap (λ (gs : List Brought). a ∷ gs) (l .1 .whole);
+                status = l .1 .status;
+                none = l .1 .none;
+                byte = l .1 .byte;
+              },
+            )
+        go (inl none) (inl w) =
+            let k = step-known (fresh profile) a fit-fresh w in
+            inr (k .0, record { before = []; answer = a; later = fs; whole = refl; status = w; none = none; byte = k .1 })
+        go (inl none) (inr not) = inl (not, none)
+
+pub history-promise : (profile : Profile) (zone command i : ℕ) (kept : cellOf profile zone command ≡ cell.At i) (fs : List Brought)
+    → HistoryPromise profile zone command i kept fs
+history-promise profile zone command i kept fs = record {
+  unknown = λ none. stays profile zone command (fresh profile) fs (fit-fresh profile zone command i kept) none ∙ fresh-unknown profile zone command i kept;
+  last = last-known profile zone command i kept fs;
+  either = either profile zone command i kept fs;
+}

@@ -1,0 +1,38 @@
+-- Promise: document 01, 'Tracker': "A status answer, one accepted with Ac 00, makes its one cell known; a denied message, S 0F and
+-- a refused frame change nothing." A status is known by its one byte, and every other row and zone is known as before.
+use mathlib.Core.Path.{_≡_}
+use mathlib.Core.List.{List, [], _∷_}
+use Prim.Native.Nat.{ℕ}
+use lib.ListN.{length}
+use Rattle.frame.specs.declared.direction.Direction.the-variants as direction
+use Rattle.message.specs.Message.{readOf}
+use Rattle.message.specs.declared.read.Said.{Said}
+use Rattle.message.specs.declared.read.Denial.{Denial}
+use Rattle.message.specs.declared.read.Message.the-variants as message
+use Rattle.message.specs.declared.read.Reading.{Reading}
+use Rattle.message.specs.declared.read.Reading.the-variants as reading
+use Rattle.tracker.specs.Cell.{cellOf}
+use Rattle.tracker.specs.Kept.{keptIn}
+use Rattle.tracker.specs.Feed.{fed}
+use Rattle.tracker.specs.declared.cell.Cell.the-variants as cell
+use Rattle.tracker.specs.declared.kept.Tracker.{Tracker}
+use Rattle.tracker.specs.declared.kept.Kept.the-variants.{Value}
+
+-- a tracker with all of its cells, as every tracker of the code is
+abbrev pub Whole : Tracker → Type 0
+Whole t = (length (t .states) ≡ 57) × (length (t .values) ≡ 57)
+
+abbrev pub answered : Tracker → ℕ → ℕ → ℕ → List ℕ → Reading
+answered t zone command ac body = readOf (t .profile) direction.Answer zone command ac body
+
+abbrev pub after : Tracker → ℕ → ℕ → ℕ → List ℕ → Tracker
+after t zone command ac body = fed t zone command ac body .tracker
+
+pub record FeedPromise (t : Tracker) (zone command ac : ℕ) (body : List ℕ) : Type 0 where
+  pub refused : (n : ℕ) → answered t zone command ac body ≡ reading.Refused n → after t zone command ac body ≡ t
+  pub denied : (d : Denial) → answered t zone command ac body ≡ reading.Message (message.Denied d) → after t zone command ac body ≡ t
+  pub left-out : cellOf (t .profile) zone command ≡ cell.NoCell → after t zone command ac body ≡ t
+  pub known : Whole t → (s : Said) → answered t zone command ac body ≡ reading.Message (message.Status s)
+      → (i : ℕ) → cellOf (t .profile) zone command ≡ cell.At i
+      → (b : ℕ) × (body ≡ b ∷ []) × (keptIn (after t zone command ac body) zone command ≡ Value b)
+  pub others : (z c : ℕ) → ((z ≡ zone) × (c ≡ command) → ⊥) → keptIn (after t zone command ac body) z c ≡ keptIn t z c

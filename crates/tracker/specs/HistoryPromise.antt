@@ -1,0 +1,57 @@
+-- Promise: what a tracker knows of a row and zone is what the last status answer of it said, among all that were fed since it was
+-- made new; where there was none, it is unknown.
+use mathlib.Core.Path.{_≡_}
+use mathlib.Core.List.{List, [], _∷_, _++_}
+use mathlib.Core.Logic.{_⊎_}
+use Prim.Native.Nat.{ℕ}
+use Rattle.frame.specs.declared.direction.Direction.the-variants as direction
+use Rattle.row.specs.declared.profile.Profile.{Profile}
+use Rattle.message.specs.Message.{readOf}
+use Rattle.message.specs.declared.read.Said.{Said}
+use Rattle.message.specs.declared.read.Message.the-variants as message
+use Rattle.message.specs.declared.read.Reading.the-variants as reading
+use Rattle.tracker.specs.Cell.{cellOf}
+use Rattle.tracker.specs.Kept.{fresh, keptIn}
+use Rattle.tracker.specs.FeedPromise.{after}
+use Rattle.tracker.specs.declared.cell.Cell.the-variants as cell
+use Rattle.tracker.specs.declared.kept.Tracker.{Tracker}
+use Rattle.tracker.specs.declared.kept.Kept.the-variants.{Value, Unknown}
+
+-- what the frame of an answer brings
+pub record Brought : Type 0 where
+  pub zone : ℕ
+  pub command : ℕ
+  pub answer : ℕ
+  pub body : List ℕ
+
+-- answers fed one after another
+unfoldable pub fedAll : Tracker → List Brought → Tracker
+fedAll t [] = t
+fedAll t (a ∷ fs) = fedAll (after t (a .zone) (a .command) (a .answer) (a .body)) fs
+
+-- an answer that is a status of this zone and command
+abbrev pub IsStatus : Profile → ℕ → ℕ → Brought → Type 0
+IsStatus profile zone command a =
+    (a .zone ≡ zone) × (a .command ≡ command)
+    × ((s : Said) × (readOf profile direction.Answer (a .zone) (a .command) (a .answer) (a .body) ≡ reading.Message (message.Status s)))
+
+-- none of some answers is
+abbrev pub NoneOf : Profile → ℕ → ℕ → List Brought → Type 0
+NoneOf profile zone command [] = Unit {0}
+NoneOf profile zone command (a ∷ fs) = (IsStatus profile zone command a → ⊥) × NoneOf profile zone command fs
+
+-- the last of some answers that is, with its one byte
+pub record Last (profile : Profile) (zone command : ℕ) (fs : List Brought) (b : ℕ) : Type 0 where
+  pub before : List Brought
+  pub answer : Brought
+  pub later : List Brought
+  pub whole : fs ≡ before ++ answer ∷ later
+  pub status : IsStatus profile zone command answer
+  pub none : NoneOf profile zone command later
+  pub byte : answer .body ≡ b ∷ []
+
+-- of a zone and command that have a cell
+pub record HistoryPromise (profile : Profile) (zone command i : ℕ) (kept : cellOf profile zone command ≡ cell.At i) (fs : List Brought) : Type 0 where
+  pub unknown : NoneOf profile zone command fs → keptIn (fedAll (fresh profile) fs) zone command ≡ Unknown
+  pub last : (b : ℕ) → Last profile zone command fs b → keptIn (fedAll (fresh profile) fs) zone command ≡ Value b
+  pub either : NoneOf profile zone command fs ⊎ ((b : ℕ) × Last profile zone command fs b)
