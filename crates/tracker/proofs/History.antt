@@ -48,6 +48,9 @@ unfolding fedAll
 fit-all profile t [] f = f
 fit-all profile t (a ∷ fs) f = fit-all profile (next t a) fs (fit-next profile t a f)
 
+pub all-profile : (profile : Profile) (fs : List Brought) → fedAll (fresh profile) fs .profile ≡ profile
+all-profile profile fs = fit-all profile (fresh profile) fs (refl, (refl, refl)) .0
+
 fed-append : (t : Tracker) (fs bs : List Brought) → fedAll t (fs ++ bs) ≡ fedAll (fedAll t fs) bs
 unfolding fedAll
 fed-append t [] bs = refl

@@ -1,6 +1,7 @@
--- Proofs about trackers: their cells, what feeding does, what any answers leave known, one answer for each function, and computed witnesses.
+-- Proofs about trackers: their cells, feeding, history, sign-off, one answer for each function, and computed witnesses.
 pub mod Cells
 pub mod Feeds
 pub mod History
+pub mod Signs
 pub mod OneAnswer
 pub mod Witness

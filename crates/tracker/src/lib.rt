@@ -1,4 +1,5 @@
-// What a unit has answered: one byte or unknown for each row and zone.
+// What a unit has answered: one byte or unknown for each row and zone; and the sign-off of a sheet by it.
 pub mod cell;
 pub mod feed;
 pub mod kept;
+pub mod sign;
