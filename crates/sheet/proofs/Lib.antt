@@ -1,4 +1,11 @@
 pub mod Repeats
+pub mod Faults
 pub mod Sheets
+pub mod Records
+pub mod Files
+pub mod Filled
+pub mod Rooms
+pub mod Trips
+pub mod Writes
 pub mod Witness
 pub mod OneAnswer

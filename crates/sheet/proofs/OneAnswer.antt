@@ -1,14 +1,20 @@
 -- Each public function's contract admits one answer.
 use mathlib.Core.Path.{_≡_}
+use mathlib.Core.List.{List}
 use Prim.Native.Nat.{ℕ}
 use Rattle.frame.specs.OneAnswer.{OneAnswer}
-use Rattle.frame.proofs.OneAnswer.{one}
+use Rattle.frame.proofs.OneAnswer.{one, one-lent}
+use Rattle.row.specs.Profile.{profileOf}
 use Rattle.row.specs.declared.profile.Profile.{Profile}
 use Rattle.row.specs.declared.table.Row.{Row}
 use Rattle.sheet.specs.Line.{isSheetValue, isLegal, sameCell}
-use Rattle.sheet.specs.Check.{begun, withLine, verdictOf}
+use Rattle.sheet.specs.Lines.{noLines, withLine, linesOf}
+use Rattle.sheet.specs.Check.{sheetVerdict}
+use Rattle.sheet.specs.File.{fileRead, fileReadBy}
+use Rattle.sheet.specs.Written.{fileAnswered, fileLeft, runAnswered, runLeft}
 use Rattle.sheet.specs.declared.line.Line.{Line}
-use Rattle.sheet.specs.declared.check.Checked.{Checked}
+use Rattle.sheet.specs.declared.lines.Sheet.{Sheet}
+use Rattle.sheet.specs.declared.write.SheetWritten.{SheetWritten}
 
 pub is-legal-one : (profile : Profile) (l : Line) → OneAnswer (λ x. x ≡ isLegal profile l)
 is-legal-one profile l = one (isLegal profile l)
@@ -19,11 +25,26 @@ is-sheet-value-one row value = one (isSheetValue row value)
 pub is-same-cell-one : (a b : Line) → OneAnswer (λ x. x ≡ sameCell a b)
 is-same-cell-one a b = one (sameCell a b)
 
-pub begin-one : (profile : Profile) → OneAnswer (λ x. x ≡ begun profile)
-begin-one profile = one (begun profile)
+pub no-lines-one : OneAnswer (λ x. x ≡ noLines)
+no-lines-one = one noLines
 
-pub with-line-one : (c : Checked) (l : Line) → OneAnswer (λ x. x ≡ withLine c l)
-with-line-one c l = one (withLine c l)
+pub with-line-one : (s : Sheet) (l : Line) → OneAnswer (λ x. x ≡ withLine s l)
+with-line-one s l = one (withLine s l)
 
-pub judged-one : (c : Checked) → OneAnswer (λ x. x ≡ verdictOf c)
-judged-one c = one (verdictOf c)
+pub checked-one : (profile : Profile) (s : Sheet) → OneAnswer (λ x. x ≡ sheetVerdict profile (linesOf s))
+checked-one profile s = one (sheetVerdict profile (linesOf s))
+
+pub read-file-one : (profile : Profile) (file : List ℕ) → OneAnswer (λ x. x ≡ fileRead profile file)
+read-file-one profile file = one (fileRead profile file)
+
+pub read-file-by-letter-one : (letter : ℕ) (file : List ℕ) → OneAnswer (λ x. x ≡ fileReadBy (profileOf letter) file)
+read-file-by-letter-one letter file = one (fileReadBy (profileOf letter) file)
+
+-- a write: its answer and the buffer after it
+pub put-file-one : (profile : Profile) (s : Sheet) (buf : List ℕ) (at : ℕ)
+    → OneAnswer (λ (w : SheetWritten × List ℕ). (w .0 ≡ fileAnswered profile (linesOf s) buf at) × (w .1 ≡ fileLeft profile (linesOf s) buf at))
+put-file-one profile s buf at = one-lent (fileAnswered profile (linesOf s) buf at) (fileLeft profile (linesOf s) buf at)
+
+pub put-run-one : (profile : Profile) (s : Sheet) (buf : List ℕ) (at : ℕ)
+    → OneAnswer (λ (w : SheetWritten × List ℕ). (w .0 ≡ runAnswered profile (linesOf s) buf at) × (w .1 ≡ runLeft profile (linesOf s) buf at))
+put-run-one profile s buf at = one-lent (runAnswered profile (linesOf s) buf at) (runLeft profile (linesOf s) buf at)

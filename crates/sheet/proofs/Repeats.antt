@@ -16,7 +16,7 @@ module _ (lines : List Line) (count : ℕ) (room : count ≤ length lines) (l : 
   long : length first ≡ count
   long = length-take-le count lines room
 
-  here : i < count → drop i first ≡ getD lines i d ∷ drop (i + 1) first
+  pub here : i < count → drop i first ≡ getD lines i d ∷ drop (i + 1) first
   here h = rw (add-one i) (drop-cons first i d (rw long h) ∙ ap (λ (x : Line). x ∷ drop (suc i) first) (getD-take count lines i d h))
 
   pub hit : i < count → sameCell (getD lines i d) l ≡ true → isRepeated (drop i first) l ≡ true

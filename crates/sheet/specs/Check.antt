@@ -1,51 +1,39 @@
 -- Document 01, 'Sheet, sheet file and run': "Checks: 6, then the lowest line at fault, 7 before 8 on that line."
-use Prim.Native.Nat.{ℕ, _+_}
-use mathlib.Core.Bool.{cond}
-use mathlib.Core.List.{List}
-use lib.Dec.{eqb, leb, ltb}
-use lib.ListN.{take, set, replicate}
+use Prim.Native.Nat.{ℕ}
+use mathlib.Core.Bool.{not}
+use mathlib.Core.List.{List, [], _∷_, _++_}
+use lib.Dec.{ltb}
+use lib.ListN.{length}
+use Rattle.frame.specs.Refusal.{line, ruled}
 use Rattle.row.specs.declared.profile.Profile.{Profile}
 use Rattle.sheet.specs.Line.{isLegal, isRepeated}
+use Rattle.sheet.specs.Lines.{sheetLimit}
 use Rattle.sheet.specs.declared.line.Line.{Line}
-use Rattle.sheet.specs.declared.check.Fault.{Fault}
-use Rattle.sheet.specs.declared.check.Checked.{Checked}
 use Rattle.sheet.specs.declared.check.Verdict.{Verdict}
 use Rattle.sheet.specs.declared.check.Verdict.the-variants.{Accepted, Refused}
 
--- "sheet of more than 12 lines"
-abbrev pub sheetLimit : ℕ
-sheetLimit = 12
+-- the number of a line's fault behind some lines, "7 before 8 on that line"; 0 where it has none
+abbrev pub faultOf : Profile → List Line → Line → ℕ
+faultOf profile earlier l = ruled (line 7 (not (isLegal profile l)) ∷ line 8 (isRepeated earlier l) ∷ []) (λ n. n) 0
 
-abbrev pub fault : ℕ → ℕ → Fault
-fault number place = record { number = number; place = place }
+-- "the lowest line at fault", with its index
+unfoldable pub lowestFault : Profile → List Line → List Line → Verdict
+lowestFault profile earlier [] = Accepted
+lowestFault profile earlier (l ∷ ls) =
+    ruled (line 7 (not (isLegal profile l)) ∷ line 8 (isRepeated earlier l) ∷ []) (λ n. Refused n (length earlier))
+    (lowestFault profile (earlier ++ l ∷ []) ls)
 
--- the lowest fault once a line is added behind some: an earlier fault stays
-unfoldable pub faultAfter : Fault → Profile → List Line → ℕ → Line → Fault
-faultAfter before profile earlier place l =
-    cond (eqb (before .number) 0)
-    (cond (isLegal profile l) (cond (isRepeated earlier l) (fault 8 place) (fault 0 0)) (fault 7 place))
-    before
+-- 6: "sheet of more than 12 lines"; its place is the limit
+abbrev pub overLimit : List Line → Verdict
+overLimit ls = ruled (line 6 (ltb sheetLimit (length ls)) ∷ []) (λ n. Refused n sheetLimit) Accepted
 
-abbrev pub begun : Profile → Checked
-begun profile = record { profile = profile; count = 0; lines = replicate sheetLimit (record { zone = 0; command = 0; value = 0 }); fault = fault 0 0 }
+-- "then": the first of two verdicts that refuses
+abbrev pub firstRefusal : Verdict → Verdict → Verdict
+firstRefusal Accepted v = v
+firstRefusal (Refused n i) v = Refused n i
 
--- one line more; at the limit it is not kept, and one more than the limit counts for any longer sheet
-unfoldable pub withLine : Checked → Line → Checked
-withLine c l =
-    cond (leb sheetLimit (c .count))
-    (record { profile = c .profile; count = sheetLimit + 1; lines = c .lines; fault = c .fault })
-    (record {
-      profile = c .profile;
-      count = c .count + 1;
-      lines = set (c .lines) (c .count) l;
-      fault = faultAfter (c .fault) (c .profile) (take (c .count) (c .lines)) (c .count) l;
-    })
-
--- "Checks: 6, then the lowest line at fault"; the place of a 6 is the limit
-unfoldable pub verdictOf : Checked → Verdict
-verdictOf c =
-    cond (ltb sheetLimit (c .count)) (Refused 6 sheetLimit)
-    (cond (eqb (c .fault .number) 0) Accepted (Refused (c .fault .number) (c .fault .place)))
+unfoldable pub sheetVerdict : Profile → List Line → Verdict
+sheetVerdict profile ls = firstRefusal (overLimit ls) (lowestFault profile [] ls)
 
 -- the number and the place that a verdict gives; "accepted" is 0
 abbrev pub verdictNumber : Verdict → ℕ

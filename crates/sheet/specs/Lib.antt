@@ -1,4 +1,12 @@
--- What must be believed: a sheet's lines, its check, and the promise of it.
+-- What must be believed: a sheet's lines, its check, its file, its run, what writing answers and leaves; then the promises.
+-- `Computed` need not be believed.
 pub mod Line
+pub mod Lines
 pub mod Check
+pub mod File
+pub mod Run
+pub mod Written
 pub mod SheetPromise
+pub mod FilePromise
+pub mod WrittenPromise
+pub mod Computed

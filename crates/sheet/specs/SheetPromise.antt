@@ -1,17 +1,18 @@
 -- Promise: document 01, 'Sheet, sheet file and run': "Checks: 6, then the lowest line at fault, 7 before 8 on that line." Where a
 -- sheet is refused with 7 or 8, that line is at fault by that number and none before it is; it is accepted exactly when it has no
--- more lines than the limit and none is at fault. A sheet within the limit is kept whole: each line as it came, in order.
+-- more lines than the limit and none is at fault. Lines that are brought together by value are checked as the list that they are,
+-- and within the limit they are kept: each as it came, in order.
 use mathlib.Core.Path.{_≡_}
 use mathlib.Core.Bool.{true, false}
 use mathlib.Core.List.{List, [], _∷_, _++_}
 use mathlib.Core.Logic.{_⊎_}
 use Prim.Native.Nat.{ℕ, zero, suc, _≤_, _<_}
-use lib.ListN.{length, take}
+use lib.ListN.{length}
 use Rattle.row.specs.declared.profile.Profile.{Profile}
 use Rattle.sheet.specs.Line.{isLegal, isRepeated}
-use Rattle.sheet.specs.Check.{sheetLimit, begun, withLine, verdictOf, verdictNumber, verdictPlace}
+use Rattle.sheet.specs.Lines.{sheetLimit, noLines, withAll, linesOf}
+use Rattle.sheet.specs.Check.{sheetVerdict, verdictNumber, verdictPlace}
 use Rattle.sheet.specs.declared.line.Line.{Line}
-use Rattle.sheet.specs.declared.check.Checked.{Checked}
 use Rattle.sheet.specs.declared.check.Verdict.{Verdict}
 use Rattle.sheet.specs.declared.check.Verdict.the-variants.{Accepted}
 
@@ -33,25 +34,15 @@ abbrev pub AllSound : Profile → List Line → List Line → Type 0
 AllSound profile earlier [] = Unit {0}
 AllSound profile earlier (l ∷ ls) = Sound profile earlier l × AllSound profile (earlier ++ l ∷ []) ls
 
--- the check of a list of lines, line by line
-unfoldable pub checkedAll : Checked → List Line → Checked
-checkedAll c [] = c
-checkedAll c (l ∷ ls) = checkedAll (withLine c l) ls
-
-abbrev pub sheetVerdict : Profile → List Line → Verdict
-sheetVerdict profile ls = verdictOf (checkedAll (begun profile) ls)
-
 -- a verdict's number and place
 abbrev pub Says : Verdict → ℕ → ℕ → Type 0
 Says v n i = (verdictNumber v ≡ n) × (verdictPlace v ≡ i)
-
--- a check that holds these lines, as they came
-abbrev pub Keeps : Profile → List Line → Checked → Type 0
-Keeps profile ls c = (c .profile ≡ profile) × (c .count ≡ length ls) × (take (length ls) (c .lines) ≡ ls)
 
 pub record SheetPromise (profile : Profile) (ls : List Line) : Type 0 where
   pub long : sheetLimit < length ls → Says (sheetVerdict profile ls) 6 sheetLimit
   pub fault : length ls ≤ sheetLimit → (i n : ℕ) → Lowest profile [] ls i n → Says (sheetVerdict profile ls) n i
   pub sound : length ls ≤ sheetLimit → AllSound profile [] ls → sheetVerdict profile ls ≡ Accepted
   pub either : ((i : ℕ) × (n : ℕ) × Lowest profile [] ls i n) ⊎ AllSound profile [] ls
-  pub kept : length ls ≤ sheetLimit → Keeps profile ls (checkedAll (begun profile) ls)
+  pub only : sheetVerdict profile ls ≡ Accepted → (length ls ≤ sheetLimit) × AllSound profile [] ls
+  pub together : sheetVerdict profile (linesOf (withAll noLines ls)) ≡ sheetVerdict profile ls
+  pub kept : length ls ≤ sheetLimit → linesOf (withAll noLines ls) ≡ ls
