@@ -10,5 +10,6 @@ pub mod Filled
 pub mod Rooms
 pub mod Trips
 pub mod Writes
+pub mod Plains
 pub mod Witness
 pub mod OneAnswer

@@ -92,7 +92,7 @@ module _ (profile : Profile) where
       go true false u f g h w = let z : _≡_ {A = ℕ} 0 1 = cc in absurd (omega arith)
       go false t u f g h w = let z : _≡_ {A = ℕ} 0 1 = cc in absurd (omega arith)
 
-  trip-back : (file : List ℕ) → length file ≡ length (records file) * recordSize → AllMarked profile (records file) → fileOf profile (linesIn (records file)) ≡ file
+  pub trip-back : (file : List ℕ) → length file ≡ length (records file) * recordSize → AllMarked profile (records file) → fileOf profile (linesIn (records file)) ≡ file
   unfolding records linesIn inOrder
   trip-back [] e w = refl
   trip-back (a ∷ []) e w = absurd (omega arith)
@@ -106,7 +106,7 @@ module _ (profile : Profile) where
       rw (s .0, s .1, s .2, r)
 
   -- an accepted file is whole, marked records of an accepted sheet
-  accepted-marked : (file : List ℕ) → fileVerdict profile file ≡ Accepted
+  pub accepted-marked : (file : List ℕ) → fileVerdict profile file ≡ Accepted
       → (length file ≡ length (records file) * recordSize) × AllMarked profile (records file) × (sheetVerdict profile (linesIn (records file)) ≡ Accepted)
   unfolding fileVerdict
   accepted-marked file e = go (isWhole file) refl (wrong-either (records file))
@@ -121,12 +121,12 @@ module _ (profile : Profile) where
           let long : length file ≡ length (records file) * recordSize = omega (arith, eqb-true (length file) (recordSize * length (records file)) f) in
           (long, w, sym (checks-of file (length (records file)) long w) ∙ e)
 
+  pub verdict-of : (v : Verdict) (ls : List Line) → readBy v ls .verdict ≡ v
+  verdict-of Accepted ls = refl
+  verdict-of (Refused n i) ls = refl
+
   read-accepted : (file : List ℕ) → fileRead profile file .verdict ≡ Accepted → fileVerdict profile file ≡ Accepted
   read-accepted file e = sym (verdict-of (fileVerdict profile file) (linesIn (records file))) ∙ e
-    where
-      verdict-of : (v : Verdict) (ls : List Line) → readBy v ls .verdict ≡ v
-      verdict-of Accepted ls = refl
-      verdict-of (Refused n i) ls = refl
 
   trip-again : (file : List ℕ) → fileRead profile file .verdict ≡ Accepted → fileOf profile (linesOf (fileRead profile file .sheet)) ≡ file
   trip-again file e =

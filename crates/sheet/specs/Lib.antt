@@ -6,6 +6,7 @@ pub mod Check
 pub mod File
 pub mod Run
 pub mod Written
+pub mod Plain
 pub mod SheetPromise
 pub mod FilePromise
 pub mod WrittenPromise

@@ -4,4 +4,5 @@ pub mod file;
 pub mod line;
 pub mod lines;
 pub mod list;
+pub mod plain;
 pub mod write;

@@ -36,7 +36,7 @@ pub fn is_sheet_value(row: Row, value: u8) -> bool
 }
 
 // Whether two lines have the same zone and row; the value is not compared.
-pub fn is_same_cell(a: Line, b: Line) -> bool
+pub(crate) fn is_same_cell(a: Line, b: Line) -> bool
     ensures { λ r. ⌜ r ≡ sameCell a b ⌝ }
 {
     if a.zone != b.zone {

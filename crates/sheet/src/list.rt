@@ -36,12 +36,7 @@ pub fn check_sheet(profile: Profile, lines: &[Line]) -> Verdict
 }
 
 // Writes its file into the rest of the buffer from a place: the sheet's checks, then 9.
-pub fn write_sheet_file(
-    profile: Profile,
-    lines: &[Line],
-    buf: &mut [u8],
-    at: usize,
-) -> SheetWritten
+pub fn write_sheet_file(profile: Profile, lines: &[Line], buf: &mut [u8], at: usize) -> SheetWritten
     ensures { λ r. ⌜ (r ≡ fileAnswered profile (now (lines .entry)) (now (buf .entry)) at) × (now (buf .exit) ≡ fileLeft profile (now (lines .entry)) (now (buf .entry)) at) ⌝ }
 {
     let empty = no_lines();

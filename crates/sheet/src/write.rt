@@ -36,14 +36,14 @@ enum Form {
 }
 
 // Writes a sheet's file into the rest of the buffer from a place: the sheet's checks, then 9.
-pub fn put_file(buf: &mut [u8], at: usize, profile: Profile, sheet: Sheet) -> SheetWritten
+pub(crate) fn put_file(buf: &mut [u8], at: usize, profile: Profile, sheet: Sheet) -> SheetWritten
     ensures { λ r. ⌜ (r ≡ fileAnswered profile (linesOf sheet) (now (buf .entry)) at) × (now (buf .exit) ≡ fileLeft profile (linesOf sheet) (now (buf .entry)) at) ⌝ }
 {
     put_sheet(Form::File, profile, sheet, buf, at)
 }
 
 // Writes a sheet's run into the rest of the buffer from a place: the sheet's checks, then 9 for the whole run.
-pub fn put_run(buf: &mut [u8], at: usize, profile: Profile, sheet: Sheet) -> SheetWritten
+pub(crate) fn put_run(buf: &mut [u8], at: usize, profile: Profile, sheet: Sheet) -> SheetWritten
     ensures { λ r. ⌜ (r ≡ runAnswered profile (linesOf sheet) (now (buf .entry)) at) × (now (buf .exit) ≡ runLeft profile (linesOf sheet) (now (buf .entry)) at) ⌝ }
 {
     put_sheet(Form::Run, profile, sheet, buf, at)
@@ -171,5 +171,13 @@ fn put_command(tail: &mut [u8], line: Line)
     requires { ⌜ recordSize ≤ length (now tail) ⌝ }
     ensures { λ _. ⌜ now (tail .exit) ≡ lineFrame line ++ drop recordSize (now (tail .entry)) ⌝ }
 {
-    write_raw(Direction::Command, tail, 0, line.zone, line.command, 0, &[line.value]);
+    write_raw(
+        Direction::Command,
+        tail,
+        0,
+        line.zone,
+        line.command,
+        0,
+        &[line.value],
+    );
 }

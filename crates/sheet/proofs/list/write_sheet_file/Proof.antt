@@ -153,7 +153,7 @@ module _ {M : Type 1} (𝓤 : URA M) (H : Heap 𝓤) (A : Atoms 𝓤) (W : Given
         split ! $ move ! (1 ∷ []) $ use1 W (raw (fact 𝓤 (sheet ≡ withAll empty lines))) (said-2 empty sheet) $ heard ! (sheet ≡ withAll empty lines) (λ e-sheet. split ! $ split ! $ move ! (1 ∷ []) $ drop ! $ move ! (1 ∷ []) $
         peeks ! D2.the-row (Is D2.the-row) (shows 𝓤 H A D2.the-row) sheet (u-sheet ∷ []) (λ is-sheet. drop ! $ land ! (from ! (stop !)) (init ! 10 refl (LL.lawful D2.the-type D2′.the-laws 𝓤 H A W .typed sheet _ is-sheet .0)) $
         -- write/put_file
-       
+
         -- the buffer is lent again for the call: the pointer and the count
         assigns ! (addr ! (from ! (fld ! refl (hop ! (look-in ! 16 (sub ! 0 refl (whole !))) (stop !))))) (from ! (stop !)) (init ! 8 refl (tt, tt)) $ assigns ! (agg ! (and-then ! (load ! (from ! (stop !)) (look ! 8 refl)) (and-then ! (load ! (from ! (fld ! refl (stop !))) (look-in ! 16 (sub ! 1 refl (whole !)))) (no-more !)))) (from ! (stop !)) (init ! 6 refl (tt, (tt, (record { fits = room-buf .0 }, tt)))) $
         lft-new ! tt (λ ν. move ! (6 ∷ 3 ∷ []) $

@@ -38,7 +38,7 @@ returns-2 c =
     let g = c .before .before .before .before .args in
     let bytes = sheetBytes (g .form) (g .profile) (firstLines (g .lines) (g .count)) in
     let long : length bytes ≡ zerosOf (g .form) + g .count * recordSize =
-        sheet-length (g .form) (g .profile) (firstLines (g .lines) (g .count)) ∙ ap (λ (n : ℕ). zerosOf (g .form) + n * recordSize) (first-many (g .lines) (g .count)) in
+    sheet-length (g .form) (g .profile) (firstLines (g .lines) (g .count)) ∙ ap (λ (n : ℕ). zerosOf (g .form) + n * recordSize) (first-many (g .lines) (g .count)) in
     let few : length (g .buf .now) - g .at < zerosOf (g .form) + g .count * recordSize = rw (← c .before .zeros-of .ensures) (c .if2 .taken) in
     too-few (g .buf .now) (g .at) bytes (zerosOf (g .form) + g .count * recordSize) long (search needs) few
 
@@ -65,7 +65,7 @@ returns-3 c =
     let first = first-short (g .lines) (g .count) (search needs) in
     let bytes = sheetBytes (g .form) (g .profile) (firstLines (g .lines) (g .count)) in
     let long : length bytes ≡ n =
-        sheet-length (g .form) (g .profile) (firstLines (g .lines) (g .count)) ∙ ap (λ (m : ℕ). zerosOf (g .form) + m * recordSize) (first-many (g .lines) (g .count)) in
+    sheet-length (g .form) (g .profile) (firstLines (g .lines) (g .count)) ∙ ap (λ (m : ℕ). zerosOf (g .form) + m * recordSize) (first-many (g .lines) (g .count)) in
     let room : n ≤ length (g .buf .now) - g .at = rw (← z .ensures) (search needs) in
     rw (z .ensures) (enough (g .buf .now) (g .at) bytes n long (search needs) room _
     (tail-placed (g .buf .now) (g .at) bytes (c .before .before .put-bytes .last .0) n long (rw first (c .before .before .put-bytes .ensures))))

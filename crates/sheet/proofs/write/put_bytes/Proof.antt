@@ -38,7 +38,7 @@ returns c =
     let room : g .count ≤ length (g .lines) = search needs in
     let bytes = inOrder (bytesOf (g .form) (g .profile)) (take (g .count) (g .lines)) in
     let long : length bytes ≡ g .count * recordSize =
-        in-order-length (bytesOf (g .form) (g .profile)) (bytes-six (g .form) (g .profile)) (take (g .count) (g .lines)) ∙ ap (λ (n : ℕ). n * recordSize) (length-take-le (g .count) (g .lines) room) in
+    in-order-length (bytesOf (g .form) (g .profile)) (bytes-six (g .form) (g .profile)) (take (g .count) (g .lines)) ∙ ap (λ (n : ℕ). n * recordSize) (length-take-le (g .count) (g .lines) room) in
     let zeros = c .before .before .before .before .before .before .before .before .zeros-of .ensures in
     filled-tail (c .before .before .before .before .before .before .put-zeros .last .0) (g .tail .now) (replicate (c .before .before .before .before .before .before .before .before .zeros-of .result) 0) bytes (c .before .before .put-lines .last .0) (c .before .before .before .before .before .before .before .before .zeros-of .result) (g .count * recordSize) (length-replicate (c .before .before .before .before .before .before .before .before .zeros-of .result) 0) (c .before .before .before .before .before .before .put-zeros .ensures) long (c .before .before .put-lines .ensures)
     ∙ rw zeros

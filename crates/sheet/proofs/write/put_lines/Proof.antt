@@ -59,15 +59,15 @@ loop-again c =
     let room : g .count ≤ length (g .t4) = search needs in
     let head = inOrder (bytesOf (g .form) (g .profile)) (take (l .i) (g .t4)) in
     let long : length head ≡ l .i * recordSize =
-        in-order-length (bytesOf (g .form) (g .profile)) (bytes-six (g .form) (g .profile)) (take (l .i) (g .t4)) ∙ ap (λ (n : ℕ). n * recordSize) (length-take-le (l .i) (g .t4) (search needs)) in
+    in-order-length (bytesOf (g .form) (g .profile)) (bytes-six (g .form) (g .profile)) (take (l .i) (g .t4)) ∙ ap (λ (n : ℕ). n * recordSize) (length-take-le (l .i) (g .t4) (search needs)) in
     let line = getD (g .t4) (l .i) noLine in
     let along : l .i * recordSize + recordSize ≡ (l .i + 1) * recordSize = omega arith in
     let same : length (l .tail) ≡ length (g .tail .now) = l .inv .1 in (
       search needs,
       same-len-mid (l .i * recordSize) (length (l .tail) - l .i * recordSize) (l .tail) (c .before .before .put-line .last .0) (c .before .before .put-line .kept .0) ∙ same,
       filled-tail (l .tail) (g .tail .now) head (bytesOf (g .form) (g .profile) line) (c .before .before .put-line .last .0) (l .i * recordSize) recordSize long (l .inv .2) (bytes-six (g .form) (g .profile) line) (c .before .before .put-line .ensures)
-      ∙ ap (λ (xs : List ℕ). xs ++ drop (l .i * recordSize + recordSize) (g .tail .now)) (sym (in-order-more (bytesOf (g .form) (g .profile)) (g .t4) (l .i) (search needs)))
-      ∙ ap (λ (n : ℕ). inOrder (bytesOf (g .form) (g .profile)) (take (l .i + 1) (g .t4)) ++ drop n (g .tail .now)) along,
+          ∙ ap (λ (xs : List ℕ). xs ++ drop (l .i * recordSize + recordSize) (g .tail .now)) (sym (in-order-more (bytesOf (g .form) (g .profile)) (g .t4) (l .i) (search needs)))
+          ∙ ap (λ (n : ℕ). inOrder (bytesOf (g .form) (g .profile)) (take (l .i + 1) (g .t4)) ++ drop n (g .tail .now)) along,
     )
 
 same-length : tie.Need-same-length Inv-loop μ-loop
