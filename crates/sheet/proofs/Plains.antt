@@ -5,14 +5,14 @@ use Prim.Native.Nat.{ℕ}
 use Rattle.row.specs.declared.profile.Profile.{Profile}
 use Rattle.row.specs.declared.profile.Named.{Named}
 use Rattle.row.specs.declared.profile.Named.the-variants as named
-use Rattle.sheet.specs.Lines.{linesOf}
+use Rattle.sheet.specs.Lines.{noLines, withAll, linesOf}
 use Rattle.sheet.specs.Check.{sheetVerdict}
 use Rattle.sheet.specs.File.{records, linesIn, fileOf, fileVerdict, readBy, fileRead, fileReadBy}
 use Rattle.sheet.specs.Run.{runOf}
 use Rattle.sheet.specs.Written.{answered, left, fileAnswered, fileLeft, runAnswered, runLeft}
 use Rattle.sheet.specs.Plain.{fileVerdictBy, copyAnswered, copyLeft, fileRunAnswered, fileRunLeft}
 use Rattle.sheet.specs.declared.line.Line.{Line}
-use Rattle.sheet.specs.declared.file.FileRead.{FileRead}
+use Rattle.sheet.specs.declared.lines.Sheet.{Sheet}
 use Rattle.sheet.specs.declared.check.Verdict.{Verdict}
 use Rattle.sheet.specs.declared.check.Verdict.the-variants as verdict
 use Rattle.sheet.proofs.Trips.{verdict-of, accepted-marked, trip-back}
@@ -22,38 +22,48 @@ pub verdict-by : (family : Named) (file : List ℕ) → fileReadBy family file .
 verdict-by (named.Profile profile) file = verdict-of profile (fileVerdict profile file) (linesIn (records file))
 verdict-by (named.Refused n) file = refl
 
-module _ (profile : Profile) (file : List ℕ) (buf : List ℕ) (at : ℕ) where
+module _ (profile : Profile) (file : List ℕ) where
   abbrev lines : List Line
   lines = linesIn (records file)
 
-  said : (v : Verdict) → fileRead profile file .verdict ≡ v → fileVerdict profile file ≡ v
+  -- what the file's reading says, its verdict says
+  pub said : (v : Verdict) → fileRead profile file .verdict ≡ v → fileVerdict profile file ≡ v
   said v e = sym (verdict-of profile (fileVerdict profile file) lines) ∙ e
-
-  -- refused: whatever was to be written
-  pub refused-answer : (n i : ℕ) (bytes : List ℕ) → fileRead profile file .verdict ≡ verdict.Refused n i → answered (fileVerdict profile file) buf at bytes ≡ answered (verdict.Refused n i) buf at bytes
-  refused-answer n i bytes e = ap (λ (v : Verdict). answered v buf at bytes) (said (verdict.Refused n i) e)
-
-  pub refused-left : (n i : ℕ) (bytes : List ℕ) → fileRead profile file .verdict ≡ verdict.Refused n i → left (fileVerdict profile file) buf at bytes ≡ buf
-  refused-left n i bytes e = ap (λ (v : Verdict). left v buf at bytes) (said (verdict.Refused n i) e)
 
   module _ (e : fileRead profile file .verdict ≡ verdict.Accepted) where
     accepted : fileVerdict profile file ≡ verdict.Accepted
     accepted = said verdict.Accepted e
 
-    both : sheetVerdict profile lines ≡ fileVerdict profile file
+    pub both : sheetVerdict profile lines ≡ fileVerdict profile file
     both = accepted-marked profile file accepted .2 ∙ sym accepted
 
-    same : fileOf profile lines ≡ file
+    pub same : fileOf profile lines ≡ file
     same = let w = accepted-marked profile file accepted in trip-back profile file (w .0) (w .1)
 
+    pub sheet-read : fileRead profile file .sheet ≡ withAll noLines lines
+    sheet-read = ap (λ (v : Verdict). readBy v lines .sheet) accepted
+
+module _ (profile : Profile) (file : List ℕ) (buf : List ℕ) (at : ℕ) where
+  -- refused: whatever was to be written
+  pub refused-answer : (n i : ℕ) (bytes : List ℕ) → fileRead profile file .verdict ≡ verdict.Refused n i → answered (fileVerdict profile file) buf at bytes ≡ answered (verdict.Refused n i) buf at bytes
+  refused-answer n i bytes e = ap (λ (v : Verdict). answered v buf at bytes) (said profile file (verdict.Refused n i) e)
+
+  pub refused-left : (n i : ℕ) (bytes : List ℕ) → fileRead profile file .verdict ≡ verdict.Refused n i → left (fileVerdict profile file) buf at bytes ≡ buf
+  refused-left n i bytes e = ap (λ (v : Verdict). left v buf at bytes) (said profile file (verdict.Refused n i) e)
+
+  module _ (e : fileRead profile file .verdict ≡ verdict.Accepted) where
     pub copied-answer : fileAnswered profile (linesOf (fileRead profile file .sheet)) buf at ≡ copyAnswered (named.Profile profile) file buf at
-    copied-answer = ap (λ (v : Verdict). fileAnswered profile (linesOf (readBy v lines .sheet)) buf at) accepted ∙ file-answer profile lines buf at ∙ rw (both, same)
+    copied-answer =
+        ap (λ (s : Sheet). fileAnswered profile (linesOf s) buf at) (sheet-read profile file e) ∙ file-answer profile (lines profile file) buf at
+        ∙ rw (both profile file e, same profile file e)
 
     pub copied-left : fileLeft profile (linesOf (fileRead profile file .sheet)) buf at ≡ copyLeft (named.Profile profile) file buf at
-    copied-left = ap (λ (v : Verdict). fileLeft profile (linesOf (readBy v lines .sheet)) buf at) accepted ∙ file-after profile lines buf at ∙ rw (both, same)
+    copied-left =
+        ap (λ (s : Sheet). fileLeft profile (linesOf s) buf at) (sheet-read profile file e) ∙ file-after profile (lines profile file) buf at
+        ∙ rw (both profile file e, same profile file e)
 
     pub ran-answer : runAnswered profile (linesOf (fileRead profile file .sheet)) buf at ≡ fileRunAnswered (named.Profile profile) file buf at
-    ran-answer = ap (λ (v : Verdict). runAnswered profile (linesOf (readBy v lines .sheet)) buf at) accepted ∙ run-answer profile lines buf at ∙ rw both
+    ran-answer = ap (λ (s : Sheet). runAnswered profile (linesOf s) buf at) (sheet-read profile file e) ∙ run-answer profile (lines profile file) buf at ∙ rw (both profile file e)
 
     pub ran-left : runLeft profile (linesOf (fileRead profile file .sheet)) buf at ≡ fileRunLeft (named.Profile profile) file buf at
-    ran-left = ap (λ (v : Verdict). runLeft profile (linesOf (readBy v lines .sheet)) buf at) accepted ∙ run-after profile lines buf at ∙ rw both
+    ran-left = ap (λ (s : Sheet). runLeft profile (linesOf s) buf at) (sheet-read profile file e) ∙ run-after profile (lines profile file) buf at ∙ rw (both profile file e)

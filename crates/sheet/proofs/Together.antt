@@ -16,7 +16,7 @@ use Rattle.sheet.specs.declared.write.SheetWritten.{SheetWritten}
 use Rattle.sheet.proofs.Sheets.{only, all-kept, verdict-together}
 
 -- what depends on the lines of an accepted sheet alone, and is the same for every refused one
-by-verdict : {A : Type 0} (give : Verdict → List Line → A) → ((n i : ℕ) (xs ys : List Line) → give (verdict.Refused n i) xs ≡ give (verdict.Refused n i) ys)
+pub by-verdict : {A : Type 0} (give : Verdict → List Line → A) → ((n i : ℕ) (xs ys : List Line) → give (verdict.Refused n i) xs ≡ give (verdict.Refused n i) ys)
     → (profile : Profile) (ls : List Line) → give (sheetVerdict profile (linesOf (withAll noLines ls))) (linesOf (withAll noLines ls)) ≡ give (sheetVerdict profile ls) ls
 by-verdict {A} give refused profile ls =
     ap (λ (v : Verdict). give v (linesOf (withAll noLines ls))) (verdict-together profile ls) ∙ go (sheetVerdict profile ls) refl

@@ -1,6 +1,6 @@
 -- A cell lies within a tracker.
 use mathlib.Core.Path.{_≡_, refl, ap, sym, _∙_}
-use mathlib.Core.Bool.{Bool, true, false, cond, _||_}
+use mathlib.Core.Bool.{Bool, true, false, cond, _&&_, _||_}
 use mathlib.Core.List.{List, [], _∷_}
 use Prim.Native.Nat.{ℕ, _+_, _-_, _*_, _≤_, _<_}
 use native.Mathlib.Omega.{arith}
@@ -13,13 +13,16 @@ use Rattle.row.specs.Table.{table, rowOf, placeOf}
 use Rattle.row.specs.declared.profile.Profile.{Profile}
 use Rattle.row.specs.declared.profile.Profile.the-variants.{A, S}
 use Rattle.row.specs.declared.table.Row.{Row}
+use Rattle.row.specs.declared.table.Found.{Found}
 use Rattle.row.specs.declared.table.Found.the-variants as found
-use Rattle.row.proofs.Rows.{none-at, code-at}
-use Rattle.message.specs.Judge.{blank, profileZone, noRow, rowZone, isMissing, rowIn, rowLines, rowJudged}
+use Rattle.row.proofs.Rows.{Each, each-found, none-at, code-at}
+use Rattle.message.specs.Judge.{isSetting, blank, profileZone, noRow, rowZone, isMissing, rowIn, rowLines, rowJudged}
 use Rattle.message.specs.declared.judge.Judged.{Judged}
 use Rattle.message.specs.declared.judge.Judged.the-variants as judged
 use Rattle.message.proofs.Judges.{judged-legal}
-use Rattle.tracker.specs.Cell.{cellIn, cellOf}
+use Rattle.sheet.specs.Line.{legalIn, isLegal}
+use Rattle.sheet.specs.declared.line.Line.{Line}
+use Rattle.tracker.specs.Cell.{cellCount, cellIn, cellOf}
 use Rattle.tracker.specs.declared.cell.Cell.the-variants.{At, NoCell}
 
 neither : (s t : Bool) → s || t ≡ false → (s ≡ false) × (t ≡ false)
@@ -46,6 +49,7 @@ row-place profile command e = go (ltb (placeOf profile command) 19) refl
 
 -- where zone and row are legal
 pub record Lies (profile : Profile) (zone command : ℕ) : Type 0 where
+  pub found : isMissing (rowOf profile command) ≡ false
   pub low : 1 ≤ zone
   pub high : zone ≤ 3
   pub place : placeOf profile command < 19
@@ -61,6 +65,7 @@ lies profile zone command row e =
     let some = eqb-false zone 0 (zones .0) in
     let most = ltb-false (zonesOf profile) zone (zones .1) in
     record {
+      found = two .0;
       low = omega (arith, some);
       high = omega (arith, most, three profile);
       place = row-place profile command (two .0);
@@ -69,6 +74,10 @@ lies profile zone command row e =
 pub the-row : (profile : Profile) (zone command : ℕ) (row : Row) → rowJudged profile zone command ≡ judged.Legal row → row ≡ rowIn (rowOf profile command)
 unfolding rowJudged
 the-row profile zone command row e = judged-legal (rowLines profile zone command) (rowIn (rowOf profile command)) row e .1
+
+pub the-found : (f : Found) → isMissing f ≡ false → f ≡ found.Row (rowIn f)
+the-found (found.Row row) e = refl
+the-found found.NoRow e = let z : _≡_ {A = ℕ} 0 1 = cc in absurd (omega arith)
 
 pub cell-number : (n i : ℕ) → At n ≡ At i → n ≡ i
 cell-number n i f = cc
@@ -96,8 +105,33 @@ placed profile zone command i e = go (rowJudged profile zone command) (λ row f.
     go (judged.Legal row) l f = half row (row .pair) refl (l row refl) f
     go (judged.Refused n) l f = absurd (no-cell i f)
 
+-- no sheet row is a row of pairs
+abbrev Single : Row → Type 0
+Single r = r .sheet ≡ true → r .pair ≡ false
+
+single-rows : Each Single table
+unfolding table
+single-rows = (λ e. refl, (λ e. refl, (λ e. refl, (λ e. refl, (λ e. refl, (λ e. refl, (λ e. refl, (λ e. refl, (λ e. refl, (λ e. refl, (λ e. refl, (λ e. refl, (λ e. sym e, (λ e. refl, (λ e. refl, (λ e. refl, (λ e. refl, (λ e. refl, (λ e. refl, tt)))))))))))))))))))
+
+first-true : (s t : Bool) → s && t ≡ true → s ≡ true
+first-true true t e = refl
+first-true false t e = e
+
+-- so a line that is legal for a sheet has a cell
+pub legal-cell : (profile : Profile) (l : Line) → isLegal profile l ≡ true → (i : ℕ) × (cellOf profile (l .zone) (l .command) ≡ At i)
+unfolding isLegal cellOf
+legal-cell profile l e = go (rowJudged profile (l .zone) (l .command)) refl e
+  where
+    go : (j : Judged) → rowJudged profile (l .zone) (l .command) ≡ j → legalIn j (l .value) ≡ true
+        → (i : ℕ) × (cellIn j (placeOf profile (l .command)) (l .zone) ≡ At i)
+    go (judged.Legal row) f legal =
+        let there = the-found (rowOf profile (l .command)) (lies profile (l .zone) (l .command) row f .found) ∙ ap found.Row (sym (the-row profile (l .zone) (l .command) row f)) in
+        let single = each-found Single table (letterOf profile) (l .command) row single-rows there (first-true (row .sheet) (isSetting row (l .value)) legal) in
+        (placeOf profile (l .command) * 3 + l .zone - 1, rw single)
+    go (judged.Refused n) f legal = let z : _≡_ {A = ℕ} 0 1 = cc in absurd (omega arith)
+
 -- a cell is one of the tracker's
-pub within : (profile : Profile) (zone command i : ℕ) → cellOf profile zone command ≡ At i → i < 57
+pub within : (profile : Profile) (zone command i : ℕ) → cellOf profile zone command ≡ At i → i < cellCount
 within profile zone command i e =
     let p = placed profile zone command i e in
     let l = p .legal in

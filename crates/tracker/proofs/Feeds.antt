@@ -16,7 +16,6 @@ use Rattle.row.specs.Table.{table, rowOf}
 use Rattle.row.specs.declared.profile.Profile.{Profile}
 use Rattle.row.specs.declared.table.Row.{Row}
 use Rattle.row.specs.declared.table.Found.{Found}
-use Rattle.row.specs.declared.table.Found.the-variants as found
 use Rattle.row.proofs.Rows.{Each, each-found}
 use Rattle.message.specs.Judge.{isAnswer, lengthOf, valueOf, isMissing, rowIn, judgeLines}
 use Rattle.message.specs.Message.{isDenial, wrongCode, said, denial, messageOf, readLines, readOf}
@@ -27,14 +26,14 @@ use Rattle.message.specs.declared.read.Reading.{Reading}
 use Rattle.message.specs.declared.read.Reading.the-variants as reading
 use Rattle.message.proofs.Judges.{Passes, judge-passes}
 use Rattle.tracker.specs.Cell.{cellOf}
-use Rattle.tracker.specs.Kept.{isSpoilt, spoiltAt, spoiltIn, keptAt, keptIn}
-use Rattle.tracker.specs.Feed.{put, heard}
-use Rattle.tracker.specs.FeedPromise.{Whole, answered, after, FeedPromise}
+use Rattle.tracker.specs.Kept.{knownState, isSpoilt, spoiltAt, spoiltIn, keptAt, keptIn}
+use Rattle.tracker.specs.Feed.{put, heard, after}
+use Rattle.tracker.specs.FeedPromise.{Whole, answered, FeedPromise}
 use Rattle.tracker.specs.declared.cell.Cell.{Cell}
 use Rattle.tracker.specs.declared.cell.Cell.the-variants as cell
 use Rattle.tracker.specs.declared.kept.Tracker.{Tracker}
 use Rattle.tracker.specs.declared.kept.Kept.the-variants.{Value, NoCell}
-use Rattle.tracker.proofs.Cells.{placed, within, same-cell}
+use Rattle.tracker.proofs.Cells.{the-found, placed, within, same-cell}
 
 -- a status brings the zone and command that were fed, and none of the lines applies to it
 record Brings (profile : Profile) (zone command : ℕ) (body : List ℕ) (s : Said) : Type 0 where
@@ -86,10 +85,6 @@ unspoilt-rows : Each Unspoilt table
 unfolding table
 unspoilt-rows = (λ b e. refl, (λ b e. refl, (λ b e. refl, (λ b e. refl, (λ b e. ap not e, (λ b e. ap not e, (λ b e. ap not e, (λ b e. refl, (λ b e. ap not e, (λ b e. ap not e, (λ b e. ap not e, (λ b e. ap not e, (λ b e. refl, (λ b e. refl, (λ b e. refl, (λ b e. refl, (λ b e. refl, (λ b e. ap not e, (λ b e. ap not e, tt)))))))))))))))))))
 
-the-found : (f : Found) → isMissing f ≡ false → f ≡ found.Row (rowIn f)
-the-found (found.Row row) e = refl
-the-found found.NoRow e = let z : _≡_ {A = ℕ} 0 1 = cc in absurd (omega arith)
-
 unspoilt : (profile : Profile) (command b : ℕ) → isMissing (rowOf profile command) ≡ false → isAnswer (rowIn (rowOf profile command)) b ≡ true → spoiltIn profile command b ≡ false
 unspoilt profile command b m a =
     let there = the-found (rowOf profile command) m in
@@ -101,7 +96,9 @@ module _ (t : Tracker) (zone command i b : ℕ) (e : cellOf (t .profile) zone co
   unfolding keptIn
   put-known w s =
       let h = within (t .profile) zone command i e in
-      rw (e, getD-set-same (t .states) i 1 0 (omega (arith, h, w .0)), getD-set-same (t .values) i b 0 (omega (arith, h, w .1)), s)
+      let state : getD (put t (cell.At i) b .states) i 0 ≡ knownState = getD-set-same (t .states) i knownState 0 (omega (arith, h, w .0)) in
+      let value : getD (put t (cell.At i) b .values) i 0 ≡ b = getD-set-same (t .values) i b 0 (omega (arith, h, w .1)) in
+      rw (e, state, value, s)
 
   put-others : (z c : ℕ) → ((z ≡ zone) × (c ≡ command) → ⊥) → keptIn (put t (cell.At i) b) z c ≡ keptIn t z c
   unfolding keptIn
@@ -111,7 +108,7 @@ module _ (t : Tracker) (zone command i b : ℕ) (e : cellOf (t .profile) zone co
       go cell.NoCell f = refl
       go (cell.At j) f =
           let apart : j ≡ i → ⊥ = λ g. other (same-cell (t .profile) zone command z c i e (f ∙ ap cell.At g)) in
-          rw (getD-set-other (t .states) i j 1 0 apart, getD-set-other (t .values) i j b 0 apart)
+          rw (getD-set-other (t .states) i j knownState 0 apart, getD-set-other (t .values) i j b 0 apart)
 
 module _ (t : Tracker) (zone command ac : ℕ) (body : List ℕ) where
   abbrev first : ℕ

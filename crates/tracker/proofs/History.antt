@@ -16,11 +16,11 @@ use Rattle.message.specs.declared.read.Denial.{Denial}
 use Rattle.message.specs.declared.read.Message.the-variants as message
 use Rattle.message.specs.declared.read.Reading.{Reading}
 use Rattle.message.specs.declared.read.Reading.the-variants as reading
-use Rattle.tracker.specs.Cell.{cellOf}
-use Rattle.tracker.specs.Kept.{fresh, keptIn}
-use Rattle.tracker.specs.Feed.{put}
-use Rattle.tracker.specs.FeedPromise.{Whole, after}
-use Rattle.tracker.specs.HistoryPromise.{Brought, fedAll, IsStatus, NoneOf, Last, HistoryPromise}
+use Rattle.tracker.specs.Cell.{cellCount, cellOf}
+use Rattle.tracker.specs.Kept.{knownState, fresh, keptIn}
+use Rattle.tracker.specs.Feed.{put, after, Brought, fedAll}
+use Rattle.tracker.specs.FeedPromise.{Whole}
+use Rattle.tracker.specs.HistoryPromise.{IsStatus, NoneOf, Last, HistoryPromise}
 use Rattle.tracker.specs.declared.cell.Cell.{Cell}
 use Rattle.tracker.specs.declared.cell.Cell.the-variants as cell
 use Rattle.tracker.specs.declared.kept.Tracker.{Tracker}
@@ -33,7 +33,7 @@ Fit profile t = (t .profile ≡ profile) × Whole t
 
 fit-put : (profile : Profile) (t : Tracker) (k : Cell) (b : ℕ) → Fit profile t → Fit profile (put t k b)
 fit-put profile t cell.NoCell b f = f
-fit-put profile t (cell.At i) b f = (f .0, (length-set (t .states) i 1 ∙ f .1 .0, length-set (t .values) i b ∙ f .1 .1))
+fit-put profile t (cell.At i) b f = (f .0, (length-set (t .states) i knownState ∙ f .1 .0, length-set (t .values) i b ∙ f .1 .1))
 
 abbrev next : Tracker → Brought → Tracker
 next t a = after t (a .zone) (a .command) (a .answer) (a .body)
@@ -51,7 +51,7 @@ fit-all profile t (a ∷ fs) f = fit-all profile (next t a) fs (fit-next profile
 pub all-profile : (profile : Profile) (fs : List Brought) → fedAll (fresh profile) fs .profile ≡ profile
 all-profile profile fs = fit-all profile (fresh profile) fs (refl, (refl, refl)) .0
 
-fed-append : (t : Tracker) (fs bs : List Brought) → fedAll t (fs ++ bs) ≡ fedAll (fedAll t fs) bs
+pub fed-append : (t : Tracker) (fs bs : List Brought) → fedAll t (fs ++ bs) ≡ fedAll (fedAll t fs) bs
 unfolding fedAll
 fed-append t [] bs = refl
 fed-append t (a ∷ fs) bs = fed-append (next t a) fs bs
@@ -106,7 +106,7 @@ module _ (profile : Profile) (zone command : ℕ) where
 
     fresh-unknown : keptIn (fresh profile) zone command ≡ Unknown
     unfolding keptIn
-    fresh-unknown = rw (kept, getD-replicate 57 i)
+    fresh-unknown = rw (kept, getD-replicate cellCount i)
 
     last-known : (fs : List Brought) (b : ℕ) → Last profile zone command fs b → keptIn (fedAll (fresh profile) fs) zone command ≡ Value b
     unfolding fedAll

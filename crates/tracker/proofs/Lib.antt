@@ -1,7 +1,13 @@
--- Proofs about trackers: their cells, feeding, history, sign-off, one answer for each function, and computed witnesses.
+-- Proofs about trackers: their cells, feeding, history, sign-off, captures, refusals, one answer for each function, and computed
+-- witnesses.
 pub mod Cells
 pub mod Feeds
 pub mod History
 pub mod Signs
+pub mod Captures
+pub mod CaptureSigns
+pub mod Refusals
 pub mod OneAnswer
 pub mod Witness
+pub mod Together
+pub mod Plains

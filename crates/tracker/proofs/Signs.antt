@@ -1,62 +1,59 @@
 -- A sign-off is the sheet's refusal, or whether every line's cell is known and equal.
 use mathlib.Core.Path.{_≡_, refl, ap, sym, _∙_, subst}
 use mathlib.Core.Bool.{Bool, true, false, _&&_}
-use mathlib.Core.List.{List, [], _∷_}
+use mathlib.Core.List.{List, [], _∷_, _++_}
 use mathlib.Core.Logic.{_⊎_, inl, inr}
-use Prim.Native.Nat.{ℕ}
+use Prim.Native.Nat.{ℕ, _+_, _≤_, _<_}
 use native.Mathlib.Omega.{arith}
 use borrow.Author.Tests.{eq-eqb, eqb-true}
+use lib.ListN.{length, take, drop, getD, drop-of-length-le}
+use lib.Seq.{length-take-le}
 use Rattle.row.specs.declared.profile.Profile.{Profile}
-use Rattle.sheet.specs.Check.{verdictOf}
-use Rattle.sheet.specs.SheetPromise.{checkedAll, sheetVerdict}
+use Rattle.sheet.specs.Lines.{sheetLimit, linesOf}
+use Rattle.sheet.specs.Check.{sheetVerdict}
+use Rattle.sheet.specs.SheetPromise.{AllSound}
 use Rattle.sheet.specs.declared.line.Line.{Line}
+use Rattle.sheet.specs.declared.lines.Sheet.{Sheet}
 use Rattle.sheet.specs.declared.check.Verdict.{Verdict}
 use Rattle.sheet.specs.declared.check.Verdict.the-variants as verdict
+use Rattle.sheet.proofs.Faults.{first-many}
+use Rattle.sheet.proofs.Sheets.{sheet-promise}
+use Rattle.sheet.proofs.Repeats.{here}
 use Rattle.tracker.specs.Cell.{cellOf}
 use Rattle.tracker.specs.Kept.{fresh, keptAt, keptIn}
-use Rattle.tracker.specs.Sign.{holdsIn, holds, signing, withSigned, signedBy}
-use Rattle.tracker.specs.HistoryPromise.{Brought, fedAll, NoneOf, Last, HistoryPromise}
-use Rattle.tracker.specs.SignPromise.{signedAll, signOff, AllHold, AllAnswered, SignPromise, SignedPromise}
+use Rattle.tracker.specs.Feed.{Brought, fedAll}
+use Rattle.tracker.specs.Sign.{holdsIn, holds, allHold, yesOrNo, signedBy}
+use Rattle.tracker.specs.HistoryPromise.{NoneOf, Last, HistoryPromise}
+use Rattle.tracker.specs.SignPromise.{AllHold, AllAnswered, SignPromise, SignedPromise}
 use Rattle.tracker.specs.declared.cell.Cell.{Cell}
 use Rattle.tracker.specs.declared.cell.Cell.the-variants as cell
 use Rattle.tracker.specs.declared.kept.Tracker.{Tracker}
 use Rattle.tracker.specs.declared.kept.Kept.{Kept}
 use Rattle.tracker.specs.declared.kept.Kept.the-variants as kept
-use Rattle.tracker.specs.declared.sign.Signing.{Signing}
-use Rattle.tracker.specs.declared.sign.Signed.the-variants.{Yes, No, Refused}
+use Rattle.tracker.specs.declared.sign.Signed.the-variants.{Yes, No}
+use Rattle.tracker.proofs.Cells.{legal-cell}
 use Rattle.tracker.proofs.History.{all-profile, history-promise}
 
--- the lines so far that agree
-abbrev allHold : Tracker → List Line → Bool
-allHold t [] = true
-allHold t (l ∷ ls) = holds t l && allHold t ls
+-- an accepted sheet has no more lines than there is room for
+pub accepted-count : (profile : Profile) (s : Sheet) → sheetVerdict profile (linesOf s) ≡ verdict.Accepted → s .count ≤ sheetLimit
+accepted-count profile s e = rw (first-many (s .lines) (s .count)) at (sheet-promise profile (linesOf s) .only e .0)
 
-and-assoc : (a b c : Bool) → (a && b) && c ≡ a && (b && c)
-and-assoc true b c = refl
-and-assoc false b c = refl
+-- along the first lines of an array
+module _ (t : Tracker) (lines : List Line) (count : ℕ) (room : count ≤ length lines) (i : ℕ) (d : Line) where
+  abbrev behind : ℕ → List Line
+  behind j = drop j (take count lines)
 
-and-true : (a b : Bool) → a && b ≡ true → (a ≡ true) × (b ≡ true)
-and-true true b e = (refl, e)
-and-true false b e = let z : _≡_ {A = ℕ} 0 1 = cc in absurd (omega arith)
+  pub stops : i < count → holds t (getD lines i d) ≡ false → allHold t (behind i) ≡ false
+  unfolding allHold
+  stops h e = ap (allHold t) (here lines count room d i d h) ∙ rw e
 
-sheet-part : (t : Tracker) (s : Signing) (ls : List Line) → signedAll t s ls .sheet ≡ checkedAll (s .sheet) ls
-unfolding signedAll checkedAll
-sheet-part t s [] = refl
-sheet-part t s (l ∷ ls) = sheet-part t (withSigned t s l) ls
+  pub goes-on : i < count → holds t (getD lines i d) ≡ true → allHold t (behind i) ≡ allHold t (behind (i + 1))
+  unfolding allHold
+  goes-on h e = ap (allHold t) (here lines count room d i d h) ∙ rw e
 
-agrees-part : (t : Tracker) (s : Signing) (ls : List Line) → signedAll t s ls .agrees ≡ s .agrees && allHold t ls
-unfolding signedAll
-agrees-part t s [] = and-last (s .agrees)
-  where
-    and-last : (a : Bool) → a ≡ a && true
-    and-last true = refl
-    and-last false = refl
-agrees-part t s (l ∷ ls) = agrees-part t (withSigned t s l) ls ∙ and-assoc (s .agrees) (holds t l) (allHold t ls)
-
-sign-is : (t : Tracker) (ls : List Line) → signOff t ls ≡ signedBy (sheetVerdict (t .profile) ls) (allHold t ls)
-sign-is t ls =
-    ap (λ (b : Bool). signedBy (verdictOf (signedAll t (signing t) ls .sheet)) b) (agrees-part t (signing t) ls)
-    ∙ rw (sheet-part t (signing t) ls)
+  pub ends : count ≤ i → allHold t (behind i) ≡ true
+  unfolding allHold
+  ends h = ap (allHold t) (drop-of-length-le (take count lines) {i = i} (rw (length-take-le count lines room) h))
 
 -- a line holds exactly when its cell is known and equal
 holds-if : (t : Tracker) (l : Line) → keptIn t (l .zone) (l .command) ≡ kept.Value (l .value) → holds t l ≡ true
@@ -68,34 +65,40 @@ holds-only kept.Unknown v e = let z : _≡_ {A = ℕ} 0 1 = cc in absurd (omega 
 holds-only kept.NoCell v e = let z : _≡_ {A = ℕ} 0 1 = cc in absurd (omega arith)
 
 all-if : (t : Tracker) (ls : List Line) → AllHold t ls → allHold t ls ≡ true
+unfolding allHold
 all-if t [] w = refl
 all-if t (l ∷ ls) w = rw (holds-if t l (w .0), all-if t ls (w .1))
 
+and-true : (a b : Bool) → a && b ≡ true → (a ≡ true) × (b ≡ true)
+and-true true b e = (refl, e)
+and-true false b e = let z : _≡_ {A = ℕ} 0 1 = cc in absurd (omega arith)
+
 all-only : (t : Tracker) (ls : List Line) → allHold t ls ≡ true → AllHold t ls
+unfolding allHold
 all-only t [] e = tt
 all-only t (l ∷ ls) e =
     let w = and-true (holds t l) (allHold t ls) e in
     (holds-only (keptIn t (l .zone) (l .command)) (l .value) (w .0), all-only t ls (w .1))
 
-yes-only : (v : Verdict) (b : Bool) → signedBy v b ≡ Yes → b ≡ true
-yes-only verdict.Accepted true e = refl
+yes-only : (v : Verdict) (b : Bool) → signedBy v b ≡ Yes → (v ≡ verdict.Accepted) × (b ≡ true)
+yes-only verdict.Accepted true e = (refl, refl)
 yes-only verdict.Accepted false e = let z : _≡_ {A = ℕ} 0 1 = cc in absurd (omega arith)
 yes-only (verdict.Refused n i) b e = let z : _≡_ {A = ℕ} 0 1 = cc in absurd (omega arith)
 
+no-when : (t : Tracker) (ls : List Line) → (AllHold t ls → ⊥) → yesOrNo (allHold t ls) ≡ No
+no-when t ls w = go (allHold t ls) refl
+  where
+    go : (b : Bool) → allHold t ls ≡ b → yesOrNo b ≡ No
+    go true e = absurd (w (all-only t ls e))
+    go false e = refl
+
 pub sign-promise : (t : Tracker) (ls : List Line) → SignPromise t ls
 sign-promise t ls = record {
-  refused = λ n i e. sign-is t ls ∙ ap (λ (v : Verdict). signedBy v (allHold t ls)) e;
-  yes = λ e w. sign-is t ls ∙ ap (λ (v : Verdict). signedBy v (allHold t ls)) e ∙ rw (all-if t ls w);
-  no = λ e w. sign-is t ls ∙ ap (λ (v : Verdict). signedBy v (allHold t ls)) e ∙ no-when t ls w;
-  only = λ e. all-only t ls (yes-only (sheetVerdict (t .profile) ls) (allHold t ls) (sym (sign-is t ls) ∙ e));
+  refused = λ n i e. ap (λ (v : Verdict). signedBy v (allHold t ls)) e;
+  yes = λ e w. ap (λ (v : Verdict). signedBy v (allHold t ls)) e ∙ ap yesOrNo (all-if t ls w);
+  no = λ e w. ap (λ (v : Verdict). signedBy v (allHold t ls)) e ∙ no-when t ls w;
+  only = λ e. let y = yes-only (sheetVerdict (t .profile) ls) (allHold t ls) e in (y .0, all-only t ls (y .1));
 }
-  where
-    no-when : (t : Tracker) (ls : List Line) → (AllHold t ls → ⊥) → signedBy verdict.Accepted (allHold t ls) ≡ No
-    no-when t ls w = go (allHold t ls) refl
-      where
-        go : (b : Bool) → allHold t ls ≡ b → signedBy verdict.Accepted b ≡ No
-        go true e = absurd (w (all-only t ls e))
-        go false e = refl
 
 -- what is known was said by the last status answer
 module _ (profile : Profile) (fs : List Brought) where
@@ -135,5 +138,20 @@ module _ (profile : Profile) (fs : List Brought) where
   all-last [] w = tt
   all-last (l ∷ ls) w = (known-last (l .zone) (l .command) (l .value) (w .0), all-last ls (w .1))
 
-pub signed-promise : (profile : Profile) (fs : List Brought) (ls : List Line) → SignedPromise profile fs ls
-signed-promise profile fs ls = record { answered = λ e. all-last profile fs ls (sign-promise (fedAll (fresh profile) fs) ls .only e) }
+  -- each line of an accepted sheet has a cell, and so the last status answer of it is known
+  all-known : (earlier ls : List Line) → AllSound profile earlier ls → AllAnswered profile fs ls → AllHold t ls
+  all-known earlier [] s w = tt
+  all-known earlier (l ∷ ls) s w =
+      let c = legal-cell profile l (s .0 .0) in
+      (history-promise profile (l .zone) (l .command) (c .0) (c .1) fs .last (l .value) (w .0), all-known (earlier ++ l ∷ []) ls (s .1) (w .1))
+
+  -- the tracker's profile is the one that it was made for
+  pub its-verdict : (ls : List Line) → sheetVerdict (t .profile) ls ≡ sheetVerdict profile ls
+  its-verdict ls = ap (λ (p : Profile). sheetVerdict p ls) (all-profile profile fs)
+
+  pub signed-promise : (ls : List Line) → SignedPromise profile fs ls
+  signed-promise ls = record {
+    answered = λ e. all-last ls (sign-promise t ls .only e .1);
+    signed = λ a w. sign-promise t ls .yes (its-verdict ls ∙ a) (all-known [] ls (sheet-promise profile ls .only a .1) w);
+    unsigned = λ a w. sign-promise t ls .no (its-verdict ls ∙ a) (λ hold. w (all-last ls hold));
+  }

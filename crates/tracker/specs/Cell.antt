@@ -9,6 +9,10 @@ use Rattle.message.specs.declared.judge.Judged.the-variants as judged
 use Rattle.tracker.specs.declared.cell.Cell.{Cell}
 use Rattle.tracker.specs.declared.cell.Cell.the-variants.{At, NoCell}
 
+-- as many cells as a tracker has: three to each of the table's nineteen rows
+abbrev pub cellCount : ℕ
+cellCount = 57
+
 -- three cells to a row, in the table's order; a row of pairs (S 0F) has none
 abbrev pub cellIn : Judged → ℕ → ℕ → Cell
 cellIn (judged.Legal row) place zone = cond (row .pair) NoCell (At (place * 3 + zone - 1))

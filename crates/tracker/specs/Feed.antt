@@ -1,7 +1,7 @@
 -- Document 01, 'Tracker': "A status answer, one accepted with Ac 00, makes its one cell known; a denied message, S 0F and a
 -- refused frame change nothing." "Answers .. are read under the tracker's profile".
 use Prim.Native.Nat.{ℕ}
-use mathlib.Core.List.{List}
+use mathlib.Core.List.{List, [], _∷_}
 use lib.ListN.{getD, set}
 use Rattle.frame.specs.declared.direction.Direction.the-variants as direction
 use Rattle.message.specs.Message.{readOf}
@@ -10,6 +10,7 @@ use Rattle.message.specs.declared.read.Message.the-variants as message
 use Rattle.message.specs.declared.read.Reading.{Reading}
 use Rattle.message.specs.declared.read.Reading.the-variants as reading
 use Rattle.tracker.specs.Cell.{cellOf}
+use Rattle.tracker.specs.Kept.{knownState}
 use Rattle.tracker.specs.declared.cell.Cell.{Cell}
 use Rattle.tracker.specs.declared.cell.Cell.the-variants as cell
 use Rattle.tracker.specs.declared.kept.Tracker.{Tracker}
@@ -17,7 +18,7 @@ use Rattle.tracker.specs.declared.feed.Fed.{Fed}
 
 -- one cell made known
 abbrev pub put : Tracker → Cell → ℕ → Tracker
-put t (cell.At i) b = record { profile = t .profile; states = set (t .states) i 1; values = set (t .values) i b }
+put t (cell.At i) b = record { profile = t .profile; states = set (t .states) i knownState; values = set (t .values) i b }
 put t cell.NoCell b = t
 
 -- what a message tells, with the first byte of its data
@@ -34,3 +35,18 @@ abbrev pub fed : Tracker → ℕ → ℕ → ℕ → List ℕ → Fed
 fed t zone command ac body =
     let r = readOf (t .profile) direction.Answer zone command ac body in
     record { tracker = heard t r (getD body 0 0); reading = r }
+
+abbrev pub after : Tracker → ℕ → ℕ → ℕ → List ℕ → Tracker
+after t zone command ac body = fed t zone command ac body .tracker
+
+-- what the frame of an answer brings
+pub record Brought : Type 0 where
+  pub zone : ℕ
+  pub command : ℕ
+  pub answer : ℕ
+  pub body : List ℕ
+
+-- "one answer at a time": answers fed one after another
+unfoldable pub fedAll : Tracker → List Brought → Tracker
+fedAll t [] = t
+fedAll t (a ∷ fs) = fedAll (after t (a .zone) (a .command) (a .answer) (a .body)) fs

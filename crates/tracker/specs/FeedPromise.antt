@@ -11,22 +11,19 @@ use Rattle.message.specs.declared.read.Denial.{Denial}
 use Rattle.message.specs.declared.read.Message.the-variants as message
 use Rattle.message.specs.declared.read.Reading.{Reading}
 use Rattle.message.specs.declared.read.Reading.the-variants as reading
-use Rattle.tracker.specs.Cell.{cellOf}
+use Rattle.tracker.specs.Cell.{cellCount, cellOf}
 use Rattle.tracker.specs.Kept.{keptIn}
-use Rattle.tracker.specs.Feed.{fed}
+use Rattle.tracker.specs.Feed.{after}
 use Rattle.tracker.specs.declared.cell.Cell.the-variants as cell
 use Rattle.tracker.specs.declared.kept.Tracker.{Tracker}
 use Rattle.tracker.specs.declared.kept.Kept.the-variants.{Value}
 
 -- a tracker with all of its cells, as every tracker of the code is
 abbrev pub Whole : Tracker → Type 0
-Whole t = (length (t .states) ≡ 57) × (length (t .values) ≡ 57)
+Whole t = (length (t .states) ≡ cellCount) × (length (t .values) ≡ cellCount)
 
 abbrev pub answered : Tracker → ℕ → ℕ → ℕ → List ℕ → Reading
 answered t zone command ac body = readOf (t .profile) direction.Answer zone command ac body
-
-abbrev pub after : Tracker → ℕ → ℕ → ℕ → List ℕ → Tracker
-after t zone command ac body = fed t zone command ac body .tracker
 
 pub record FeedPromise (t : Tracker) (zone command ac : ℕ) (body : List ℕ) : Type 0 where
   pub refused : (n : ℕ) → answered t zone command ac body ≡ reading.Refused n → after t zone command ac body ≡ t

@@ -12,22 +12,9 @@ use Rattle.message.specs.declared.read.Message.the-variants as message
 use Rattle.message.specs.declared.read.Reading.the-variants as reading
 use Rattle.tracker.specs.Cell.{cellOf}
 use Rattle.tracker.specs.Kept.{fresh, keptIn}
-use Rattle.tracker.specs.FeedPromise.{after}
+use Rattle.tracker.specs.Feed.{Brought, fedAll}
 use Rattle.tracker.specs.declared.cell.Cell.the-variants as cell
-use Rattle.tracker.specs.declared.kept.Tracker.{Tracker}
 use Rattle.tracker.specs.declared.kept.Kept.the-variants.{Value, Unknown}
-
--- what the frame of an answer brings
-pub record Brought : Type 0 where
-  pub zone : ℕ
-  pub command : ℕ
-  pub answer : ℕ
-  pub body : List ℕ
-
--- answers fed one after another
-unfoldable pub fedAll : Tracker → List Brought → Tracker
-fedAll t [] = t
-fedAll t (a ∷ fs) = fedAll (after t (a .zone) (a .command) (a .answer) (a .body)) fs
 
 -- an answer that is a status of this zone and command
 abbrev pub IsStatus : Profile → ℕ → ℕ → Brought → Type 0

@@ -2,8 +2,9 @@
 -- line's cell is known and equal. A sheet of no lines is signed off."
 use Prim.Native.Nat.{ℕ}
 use mathlib.Core.Bool.{Bool, true, false, cond, _&&_}
+use mathlib.Core.List.{List, [], _∷_}
 use lib.Dec.{eqb}
-use Rattle.sheet.specs.Check.{begun, withLine, verdictOf}
+use Rattle.sheet.specs.Check.{sheetVerdict}
 use Rattle.sheet.specs.declared.line.Line.{Line}
 use Rattle.sheet.specs.declared.check.Verdict.{Verdict}
 use Rattle.sheet.specs.declared.check.Verdict.the-variants as verdict
@@ -11,7 +12,6 @@ use Rattle.tracker.specs.Kept.{keptIn}
 use Rattle.tracker.specs.declared.kept.Tracker.{Tracker}
 use Rattle.tracker.specs.declared.kept.Kept.{Kept}
 use Rattle.tracker.specs.declared.kept.Kept.the-variants as kept
-use Rattle.tracker.specs.declared.sign.Signing.{Signing}
 use Rattle.tracker.specs.declared.sign.Signed.{Signed}
 use Rattle.tracker.specs.declared.sign.Signed.the-variants.{Yes, No, Refused}
 
@@ -24,19 +24,19 @@ holdsIn kept.NoCell value = false
 abbrev pub holds : Tracker → Line → Bool
 holds t l = holdsIn (keptIn t (l .zone) (l .command)) (l .value)
 
--- a sheet is read under the tracker's profile
-abbrev pub signing : Tracker → Signing
-signing t = record { sheet = begun (t .profile); agrees = true }
-
-abbrev pub withSigned : Tracker → Signing → Line → Signing
-withSigned t s l = record { sheet = withLine (s .sheet) l; agrees = s .agrees && holds t l }
+-- "every sheet line's cell is known and equal"
+unfoldable pub allHold : Tracker → List Line → Bool
+allHold t [] = true
+allHold t (l ∷ ls) = holds t l && allHold t ls
 
 abbrev pub yesOrNo : Bool → Signed
 yesOrNo agrees = cond agrees Yes No
 
+-- "a sheet that isn't accepted gives its refusal and no sign-off"
 abbrev pub signedBy : Verdict → Bool → Signed
 signedBy verdict.Accepted agrees = yesOrNo agrees
 signedBy (verdict.Refused n i) agrees = Refused n i
 
-abbrev pub signedOf : Signing → Signed
-signedOf s = signedBy (verdictOf (s .sheet)) (s .agrees)
+-- "Answers and sheets are read under the tracker's profile"
+abbrev pub signOff : Tracker → List Line → Signed
+signOff t ls = signedBy (sheetVerdict (t .profile) ls) (allHold t ls)

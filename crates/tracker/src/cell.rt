@@ -5,6 +5,9 @@ use row::table::row_place;
 ghost use mathlib.Core.Path.{_≡_};
 ghost use Rattle.tracker.specs.Cell.{cellOf};
 
+// As many cells as a tracker has: three to each of the table's nineteen rows.
+pub const CELLS: usize = 57;
+
 // Where a tracker keeps the byte of a row and zone.
 pub enum Cell {
     At(usize),
@@ -13,7 +16,7 @@ pub enum Cell {
 
 // The cell of a zone and row: three to a row, in the table's order. A zone or row that the profile lacks has
 // none, and a row of pairs has none.
-pub fn cell_of(profile: Profile, zone: u8, command: u8) -> Cell
+pub(crate) fn cell_of(profile: Profile, zone: u8, command: u8) -> Cell
     ensures { λ r. ⌜ r ≡ cellOf profile zone command ⌝ }
 {
     let judged = judge_row(profile, zone, command);

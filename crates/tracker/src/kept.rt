@@ -1,3 +1,4 @@
+use crate::cell::CELLS;
 use crate::cell::Cell;
 use crate::cell::cell_of;
 use row::profile::Profile;
@@ -15,8 +16,8 @@ pub const KNOWN: u8 = 1;
 pub struct Tracker {
     pub profile: Profile,
     // a state and a byte for each cell
-    pub states: [u8; 57],
-    pub values: [u8; 57],
+    pub states: [u8; CELLS],
+    pub values: [u8; CELLS],
 }
 
 // What a tracker keeps of a row and zone.
@@ -32,13 +33,13 @@ pub fn new_tracker(profile: Profile) -> Tracker
 {
     Tracker {
         profile: profile,
-        states: [0; 57],
-        values: [0; 57],
+        states: [0; CELLS],
+        values: [0; CELLS],
     }
 }
 
 // The byte that is known of a row and zone.
-pub fn read_cell(tracker: Tracker, zone: u8, command: u8) -> Kept
+pub(crate) fn kept_in(tracker: Tracker, zone: u8, command: u8) -> Kept
     ensures { λ r. ⌜ r ≡ keptIn tracker zone command ⌝ }
 {
     let profile = tracker.profile;

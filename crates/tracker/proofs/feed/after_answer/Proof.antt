@@ -1,7 +1,7 @@
--- `tracker::feed::feed` meets its contract.
+-- `tracker::feed::after_answer` meets its contract.
 use borrow.Author.Needs.{needs}
-use Rattle.tracker.proofs.feed.feed.Statement.{statement}
-use Rattle.tracker.proofs.feed.feed.Tie as tie
+use Rattle.tracker.proofs.feed.after_answer.Statement.{statement}
+use Rattle.tracker.proofs.feed.after_answer.Tie as tie
 
 read-message-requires : tie.Need-read-message-requires
 read-message-requires c κs = search needs
@@ -24,8 +24,8 @@ with-message-requires c κs = search needs
 returns-2 : tie.Need-returns-2
 returns-2 c = rw (← c .before .before .before .before .before .read-message .ensures, c .before .before .before .reading .given .1, c .with-message .ensures, c .before .first-byte .ensures)
 
-pub feed-spec : {M : Type 1} → statement M
-feed-spec =
+pub after-answer-spec : {M : Type 1} → statement M
+after-answer-spec =
     tie.close
     (tie.spec
     read-message-requires

@@ -1,11 +1,11 @@
--- `tracker::kept::read_cell` meets its contract.
+-- `tracker::kept::kept_in` meets its contract.
 use mathlib.Core.Path.{sym, _∙_}
 use borrow.Author.Tests.{eq-eqb, ne-eqb}
 use Rattle.tracker.specs.Kept.{keptIn}
 use Rattle.tracker.proofs.Cells.{within}
 use borrow.Author.Needs.{needs}
-use Rattle.tracker.proofs.kept.read_cell.Statement.{statement}
-use Rattle.tracker.proofs.kept.read_cell.Tie as tie
+use Rattle.tracker.proofs.kept.kept_in.Statement.{statement}
+use Rattle.tracker.proofs.kept.kept_in.Tie as tie
 
 cell-of-requires : tie.Need-cell-of-requires
 cell-of-requires c κs = search needs
@@ -41,8 +41,8 @@ returns-4 : tie.Need-returns-4
 unfolding keptIn
 returns-4 c = rw (← c .before .before .before .before .before .before .before .before .cell-of .ensures, c .before .before .before .before .before .before .cell .given .1, eq-eqb _ _ (c .before .before .before .if1 .left), ← c .before .is-spoilt .ensures, c .if2 .left)
 
-pub read-cell-spec : {M : Type 1} → statement M
-read-cell-spec =
+pub kept-in-spec : {M : Type 1} → statement M
+kept-in-spec =
     tie.close
     (tie.spec
     cell-of-requires

@@ -1,0 +1,73 @@
+-- A sheet file signed off by a capture, and a cell of a capture: over the limit, and within it.
+use mathlib.Core.Path.{_≡_, refl, ap, sym, _∙_}
+use mathlib.Core.Bool.{Bool, true, false}
+use mathlib.Core.List.{List}
+use Prim.Native.Nat.{ℕ, _≤_, _<_}
+use borrow.Author.Tests.{lt-ltb, le-ltb, ltb-true, ltb-false}
+use lib.Dec.{ltb}
+use lib.ListN.{length}
+use Rattle.frame.specs.Capture.{captureLimit}
+use Rattle.row.specs.declared.profile.Profile.{Profile}
+use Rattle.sheet.specs.Lines.{linesOf}
+use Rattle.sheet.specs.File.{records, linesIn, fileRead}
+use Rattle.sheet.specs.declared.line.Line.{Line}
+use Rattle.sheet.specs.declared.lines.Sheet.{Sheet}
+use Rattle.sheet.specs.declared.check.Verdict.{Verdict}
+use Rattle.sheet.specs.declared.check.Verdict.the-variants as verdict
+use Rattle.sheet.proofs.Plains.{said, both, sheet-read}
+use Rattle.tracker.specs.Kept.{fresh, keptIn}
+use Rattle.tracker.specs.Feed.{fedAll}
+use Rattle.tracker.specs.Sign.{allHold, signedBy}
+use Rattle.tracker.specs.Capture.{broughtBy, captureFed, captureSigned}
+use Rattle.tracker.specs.Plain.{fileSigned, shown, captureCell}
+use Rattle.tracker.specs.declared.kept.Tracker.{Tracker}
+use Rattle.tracker.specs.declared.sign.Signed.the-variants as signed
+use Rattle.tracker.specs.declared.capture.CaptureFed.{CaptureFed}
+use Rattle.tracker.specs.declared.capture.CaptureAnswer.the-variants as answer
+use Rattle.tracker.specs.declared.plain.CaptureCell.the-variants as cell
+use Rattle.tracker.proofs.Signs.{its-verdict}
+use Rattle.tracker.proofs.CaptureSigns.{fed-not, same-number, fed-long, fed-short, short}
+use Rattle.tracker.proofs.Together.{capture-together}
+
+module _ (profile : Profile) (file capture : List ℕ) where
+  abbrev lines : List Line
+  lines = linesIn (records file)
+
+  abbrev after : Tracker
+  after = fedAll (fresh profile) (broughtBy capture)
+
+  pub file-long : captureLimit < length capture → fileSigned profile file capture ≡ signed.Refused 11 0
+  file-long h = rw (lt-ltb captureLimit (length capture) h)
+
+  within : length capture ≤ captureLimit → (v : Verdict) → fileRead profile file .verdict ≡ v → fileSigned profile file capture ≡ signedBy v (allHold after lines)
+  within h v e = rw (le-ltb captureLimit (length capture) h, said profile file v e)
+
+  pub file-refused : length capture ≤ captureLimit → (n i : ℕ) → fileRead profile file .verdict ≡ verdict.Refused n i → fileSigned profile file capture ≡ signed.Refused n i
+  file-refused h n i e = within h (verdict.Refused n i) e
+
+  pub file-accepted : length capture ≤ captureLimit → fileRead profile file .verdict ≡ verdict.Accepted
+      → captureSigned profile (linesOf (fileRead profile file .sheet)) capture ≡ fileSigned profile file capture
+  file-accepted h e =
+      ap (λ (s : Sheet). captureSigned profile (linesOf s) capture) (sheet-read profile file e)
+      ∙ capture-together profile lines capture
+      ∙ short profile lines capture h
+      ∙ ap (λ (v : Verdict). signedBy v (allHold after lines)) (its-verdict profile (broughtBy capture) lines ∙ both profile file e ∙ said profile file verdict.Accepted e)
+      ∙ sym (within h verdict.Accepted e)
+
+-- a cell goes on from feeding
+module _ (profile : Profile) (capture : List ℕ) (zone command : ℕ) (f : CaptureFed) (e : f ≡ captureFed (fresh profile) capture) where
+  pub cell-fed : f .answer ≡ answer.Fed → captureCell profile capture zone command ≡ shown (keptIn (f .tracker) zone command)
+  cell-fed fed = go (ltb captureLimit (length capture)) refl
+    where
+      go : (t : Bool) → ltb captureLimit (length capture) ≡ t → captureCell profile capture zone command ≡ shown (keptIn (f .tracker) zone command)
+      go true g = absurd (fed-not 11 (sym fed ∙ ap (λ (x : CaptureFed). x .answer) (e ∙ fed-long (fresh profile) capture (ltb-true _ _ g))))
+      go false g =
+          rw g (ap (λ (x : CaptureFed). shown (keptIn (x .tracker) zone command)) (sym (e ∙ fed-short (fresh profile) capture (ltb-false _ _ g))))
+
+  pub cell-refused : (n : ℕ) → f .answer ≡ answer.Refused n → captureCell profile capture zone command ≡ cell.Refused n
+  cell-refused n refused = go (ltb captureLimit (length capture)) refl
+    where
+      go : (t : Bool) → ltb captureLimit (length capture) ≡ t → captureCell profile capture zone command ≡ cell.Refused n
+      go true g =
+          rw g (ap cell.Refused (same-number 11 n (sym (ap (λ (x : CaptureFed). x .answer) (e ∙ fed-long (fresh profile) capture (ltb-true _ _ g))) ∙ refused)))
+      go false g = absurd (fed-not n (sym (ap (λ (x : CaptureFed). x .answer) (e ∙ fed-short (fresh profile) capture (ltb-false _ _ g))) ∙ refused))
