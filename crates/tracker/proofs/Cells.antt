@@ -130,6 +130,11 @@ legal-cell profile l e = go (rowJudged profile (l .zone) (l .command)) refl e
         (placeOf profile (l .command) * 3 + l .zone - 1, rw single)
     go (judged.Refused n) f legal = let z : _≡_ {A = ℕ} 0 1 = cc in absurd (omega arith)
 
+-- three cells to each row
+pub cell-count : cellCount ≡ length table * 3
+unfolding table
+cell-count = refl
+
 -- a cell is one of the tracker's
 pub within : (profile : Profile) (zone command i : ℕ) → cellOf profile zone command ≡ At i → i < cellCount
 within profile zone command i e =

@@ -10,7 +10,7 @@ use Rattle.sheet.proofs.Together.{by-verdict}
 use Rattle.tracker.specs.Kept.{fresh}
 use Rattle.tracker.specs.Feed.{fedAll}
 use Rattle.tracker.specs.Sign.{allHold, signedBy, signOff}
-use Rattle.tracker.specs.Capture.{broughtBy, tooLong, captureSigned}
+use Rattle.tracker.specs.Capture.{broughtBy, longCapture, captureSigned}
 use Rattle.tracker.specs.declared.kept.Tracker.{Tracker}
 use Rattle.tracker.specs.declared.sign.Signed.{Signed}
 use Rattle.tracker.specs.declared.sign.Signed.the-variants as signed
@@ -20,4 +20,4 @@ sign-together t ls = by-verdict (λ v xs. signedBy v (allHold t xs)) (λ n i xs 
 
 pub capture-together : (profile : Profile) (ls : List Line) (capture : List ℕ) → captureSigned profile (linesOf (withAll noLines ls)) capture ≡ captureSigned profile ls capture
 capture-together profile ls capture =
-    ap (λ (s : Signed). ruled (tooLong capture ∷ []) (λ n. signed.Refused n 0) s) (sign-together (fedAll (fresh profile) (broughtBy capture)) ls)
+    ap (λ (s : Signed). ruled (longCapture capture ∷ []) (λ n. signed.Refused n 0) s) (sign-together (fedAll (fresh profile) (broughtBy capture)) ls)

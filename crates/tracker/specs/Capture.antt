@@ -51,15 +51,15 @@ abbrev pub broughtBy : List ℕ → List Brought
 broughtBy capture = broughtAll capture (eventsFrom Answer capture 0)
 
 -- 11: "capture over 60,000 bytes"
-abbrev pub tooLong : List ℕ → Line
-tooLong capture = line 11 (ltb captureLimit (length capture))
+abbrev pub longCapture : List ℕ → Line
+longCapture capture = line 11 (ltb captureLimit (length capture))
 
 abbrev pub captureFed : Tracker → List ℕ → CaptureFed
 captureFed t capture =
-    ruled (tooLong capture ∷ []) (λ n. record { tracker = t; answer = answer.Refused n })
+    ruled (longCapture capture ∷ []) (λ n. record { tracker = t; answer = answer.Refused n })
     (record { tracker = fedAll t (broughtBy capture); answer = answer.Fed })
 
 -- "Made new for one profile" and fed the capture alone: 11 has no place, and comes before the sheet's refusal
 abbrev pub captureSigned : Profile → List sheet.Line → List ℕ → Signed
 captureSigned profile ls capture =
-    ruled (tooLong capture ∷ []) (λ n. signed.Refused n 0) (signOff (fedAll (fresh profile) (broughtBy capture)) ls)
+    ruled (longCapture capture ∷ []) (λ n. signed.Refused n 0) (signOff (fedAll (fresh profile) (broughtBy capture)) ls)

@@ -10,7 +10,7 @@ use Rattle.sheet.specs.File.{records, linesIn, fileVerdict}
 use Rattle.tracker.specs.Kept.{fresh, keptIn}
 use Rattle.tracker.specs.Feed.{fedAll}
 use Rattle.tracker.specs.Sign.{allHold, signedBy}
-use Rattle.tracker.specs.Capture.{broughtBy, tooLong}
+use Rattle.tracker.specs.Capture.{broughtBy, longCapture}
 use Rattle.tracker.specs.declared.kept.Kept.{Kept}
 use Rattle.tracker.specs.declared.kept.Kept.the-variants as kept
 use Rattle.tracker.specs.declared.sign.Signed.{Signed}
@@ -20,7 +20,7 @@ use Rattle.tracker.specs.declared.plain.CaptureCell.the-variants as cell
 
 abbrev pub fileSigned : Profile → List ℕ → List ℕ → Signed
 fileSigned profile file capture =
-    ruled (tooLong capture ∷ []) (λ n. signed.Refused n 0)
+    ruled (longCapture capture ∷ []) (λ n. signed.Refused n 0)
     (signedBy (fileVerdict profile file) (allHold (fedAll (fresh profile) (broughtBy capture)) (linesIn (records file))))
 
 abbrev pub fileSignedBy : Named → List ℕ → List ℕ → Signed
@@ -35,7 +35,7 @@ shown kept.NoCell = cell.NoCell
 
 abbrev pub captureCell : Profile → List ℕ → ℕ → ℕ → CaptureCell
 captureCell profile capture zone command =
-    ruled (tooLong capture ∷ []) cell.Refused (shown (keptIn (fedAll (fresh profile) (broughtBy capture)) zone command))
+    ruled (longCapture capture ∷ []) cell.Refused (shown (keptIn (fedAll (fresh profile) (broughtBy capture)) zone command))
 
 abbrev pub captureCellBy : Named → List ℕ → ℕ → ℕ → CaptureCell
 captureCellBy (named.Profile profile) capture zone command = captureCell profile capture zone command
