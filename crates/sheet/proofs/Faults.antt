@@ -2,7 +2,7 @@
 use mathlib.Core.Path.{_≡_, refl, ap, sym, _∙_}
 use mathlib.Core.Bool.{Bool, true, false, not}
 use mathlib.Core.List.{List, [], _∷_, _++_}
-use Prim.Native.Nat.{ℕ, suc, _+_, _≤_, _<_}
+use Prim.Native.Nat.{ℕ, _+_, _≤_, _<_}
 use native.Mathlib.Numerals.{add-one}
 use native.Mathlib.Omega.{arith}
 use borrow.Author.Tests.{lt-ltb, le-ltb}
@@ -15,7 +15,6 @@ use Rattle.sheet.specs.Lines.{sheetLimit, noLine, firstLines, linesOf}
 use Rattle.sheet.specs.Check.{faultOf, lowestFault, sheetVerdict}
 use Rattle.sheet.specs.declared.line.Line as declared
 use Rattle.sheet.specs.declared.lines.Sheet.{Sheet}
-use Rattle.sheet.specs.declared.check.Verdict.{Verdict}
 use Rattle.sheet.specs.declared.check.Verdict.the-variants.{Accepted, Refused}
 use Rattle.sheet.proofs.Repeats.{here}
 

@@ -1,11 +1,11 @@
 -- A tail that is filled from its head: what stands in it, and the rest as it was.
 use mathlib.Core.Path.{_≡_, refl, ap, sym, _∙_}
 use mathlib.Core.List.{List, [], _∷_, _++_, append-assoc, append-nil}
-use Prim.Native.Nat.{ℕ, zero, suc, _+_, _-_, _*_, _≤_, _<_}
+use Prim.Native.Nat.{ℕ, zero, suc, _+_, _-_, _*_, _<_}
 use native.Mathlib.Numerals.{add-one}
 use native.Mathlib.Omega.{arith}
 use lib.ListN.{length, take, drop, getD, set, replicate, length-append, length-replicate}
-use lib.Seq.{take-suc, take-at, drop-at, drop-cons, drop-drop, set-at, length-take-le}
+use lib.Seq.{take-suc, take-at, drop-at, drop-cons, drop-drop, set-at}
 use Rattle.frame.specs.Frame.{frameOf}
 use Rattle.frame.specs.Raw.{placed}
 use Rattle.frame.proofs.Tail.{tail-placed}

@@ -8,7 +8,6 @@ use Rattle.row.specs.declared.profile.Named.the-variants as named
 use Rattle.sheet.specs.Lines.{noLines, withAll, linesOf}
 use Rattle.sheet.specs.Check.{sheetVerdict}
 use Rattle.sheet.specs.File.{records, linesIn, fileOf, fileVerdict, readBy, fileRead, fileReadBy}
-use Rattle.sheet.specs.Run.{runOf}
 use Rattle.sheet.specs.Written.{answered, left, fileAnswered, fileLeft, runAnswered, runLeft}
 use Rattle.sheet.specs.Plain.{fileVerdictBy, copyAnswered, copyLeft, fileRunAnswered, fileRunLeft}
 use Rattle.sheet.specs.declared.line.Line.{Line}

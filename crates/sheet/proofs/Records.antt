@@ -1,5 +1,5 @@
 -- Going along the records of a file, six bytes at a time.
-use mathlib.Core.Path.{_≡_, refl, ap, sym, _∙_}
+use mathlib.Core.Path.{_≡_, refl, ap, _∙_}
 use mathlib.Core.Bool.{true, false}
 use mathlib.Core.List.{List, [], _∷_}
 use Prim.Native.Nat.{ℕ, zero, suc, _+_, _*_, _≤_, _<_}
@@ -12,7 +12,6 @@ use Rattle.sheet.specs.Lines.{withLine, withAll}
 use Rattle.sheet.specs.File.{Record, recordSize, records, lineOf, linesIn, isMarked, lowestWrong}
 use Rattle.sheet.specs.Computed.{recordAt}
 use Rattle.sheet.specs.declared.lines.Sheet.{Sheet}
-use Rattle.sheet.specs.declared.check.Verdict.{Verdict}
 use Rattle.sheet.specs.declared.check.Verdict.the-variants.{Accepted, Refused}
 
 -- fewer than six bytes are no record

@@ -1,7 +1,6 @@
 -- Lines brought together by value are written as the list that they are.
 use mathlib.Core.Path.{_≡_, refl, ap, sym, _∙_}
 use mathlib.Core.List.{List}
-use mathlib.Core.Logic.{_⊎_, inl, inr}
 use Prim.Native.Nat.{ℕ}
 use Rattle.row.specs.declared.profile.Profile.{Profile}
 use Rattle.sheet.specs.Lines.{noLines, withAll, linesOf}
@@ -12,7 +11,6 @@ use Rattle.sheet.specs.Written.{answered, left, fileAnswered, fileLeft, 
 use Rattle.sheet.specs.declared.line.Line.{Line}
 use Rattle.sheet.specs.declared.check.Verdict.{Verdict}
 use Rattle.sheet.specs.declared.check.Verdict.the-variants as verdict
-use Rattle.sheet.specs.declared.write.SheetWritten.{SheetWritten}
 use Rattle.sheet.proofs.Sheets.{only, all-kept, verdict-together}
 
 -- what depends on the lines of an accepted sheet alone, and is the same for every refused one

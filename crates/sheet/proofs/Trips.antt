@@ -1,9 +1,9 @@
 -- A file's refusals in their order, and its lines there and back.
 use mathlib.Core.Path.{_≡_, refl, ap, sym, _∙_}
 use mathlib.Core.Bool.{Bool, true, false, _&&_}
-use mathlib.Core.List.{List, [], _∷_, _++_}
+use mathlib.Core.List.{List, [], _∷_}
 use mathlib.Core.Logic.{_⊎_, inl, inr}
-use Prim.Native.Nat.{ℕ, zero, suc, _+_, _*_, _≤_, _<_}
+use Prim.Native.Nat.{ℕ, zero, suc, _+_, _*_}
 use native.Mathlib.Nat.{add-zero, zero-add}
 use native.Mathlib.Omega.{arith}
 use borrow.Author.Tests.{eq-eqb, ne-eqb, eqb-true}
@@ -11,16 +11,15 @@ use lib.Dec.{eqb}
 use lib.ListN.{length}
 use Rattle.row.specs.Profile.{letterOf, profileOf}
 use Rattle.row.specs.declared.profile.Profile.{Profile}
-use Rattle.sheet.specs.Lines.{noLines, withAll, linesOf, inOrder}
+use Rattle.sheet.specs.Lines.{linesOf, inOrder}
 use Rattle.sheet.specs.Check.{firstRefusal, sheetVerdict}
-use Rattle.sheet.specs.File.{Record, recordSize, recordOf, records, lineOf, linesIn, isWhole, isMarked, lowestWrong, fileOf, fileVerdict, readBy, fileRead, fileReadBy}
+use Rattle.sheet.specs.File.{Record, recordSize, records, linesIn, isWhole, isMarked, lowestWrong, fileOf, fileVerdict, readBy, fileRead, fileReadBy}
 use Rattle.sheet.specs.SheetPromise.{Says}
 use Rattle.sheet.specs.FilePromise.{LowestWrong, AllMarked, FilePromise, FileTrip, FileLetter}
 use Rattle.sheet.specs.declared.line.Line.{Line}
 use Rattle.sheet.specs.declared.check.Verdict.{Verdict}
 use Rattle.sheet.specs.declared.check.Verdict.the-variants.{Accepted, Refused}
 use Rattle.sheet.proofs.Sheets.{only, all-kept, says, never}
-use Rattle.sheet.proofs.Records.{records-count}
 use Rattle.sheet.proofs.Files.{file-broken, file-whole}
 
 -- the first record with a wrong mark or profile

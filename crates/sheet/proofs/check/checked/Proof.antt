@@ -4,7 +4,6 @@ use Rattle.sheet.proofs.Faults.{verdict-long, verdict-short}
 use borrow.Author.Needs.{needs}
 use Rattle.sheet.proofs.check.checked.Statement.{statement}
 use Rattle.sheet.proofs.check.checked.Tie as tie
-use Rattle.sheet.proofs.check.lowest.Reads as lowest-reads
 
 returns : tie.Need-returns
 returns c = let g = c .before .args in sym (verdict-long (g .sheet) (g .profile) (search needs))

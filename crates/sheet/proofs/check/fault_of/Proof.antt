@@ -4,8 +4,6 @@ use borrow.Author.Tests.{not-true, not-false}
 use borrow.Author.Needs.{needs}
 use Rattle.sheet.proofs.check.fault_of.Statement.{statement}
 use Rattle.sheet.proofs.check.fault_of.Tie as tie
-use Rattle.sheet.proofs.check.repeats.Reads as repeats-reads
-use Rattle.sheet.proofs.line.is_legal.Reads as is-legal-reads
 
 mul-line : tie.Need-mul-line
 mul-line c = search needs

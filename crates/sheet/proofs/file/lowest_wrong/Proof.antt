@@ -1,7 +1,6 @@
 -- `sheet::file::lowest_wrong` meets its contract.
 use mathlib.Core.Path.{_≡_, sym, _∙_}
 use Prim.Native.Nat.{_-_, _*_, _≤_}
-use native.Mathlib.Omega.{arith}
 use borrow.Author.Tests.{not-true, not-false}
 use lib.ListN.{drop}
 use Rattle.sheet.specs.File.{recordSize, records, lowestWrong}

@@ -1,5 +1,5 @@
 -- `sheet::file::read_file` meets its contract.
-use mathlib.Core.Path.{_≡_, sym, ap, _∙_}
+use mathlib.Core.Path.{sym, ap, _∙_}
 use Prim.Native.Nat.{_/_}
 use lib.ListN.{length}
 use Rattle.sheet.specs.Check.{firstRefusal, sheetVerdict}

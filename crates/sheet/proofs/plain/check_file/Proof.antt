@@ -1,5 +1,5 @@
 -- `sheet::plain::check_file` meets its contract.
-use mathlib.Core.Path.{_≡_, ap, _∙_}
+use mathlib.Core.Path.{ap, _∙_}
 use Rattle.row.specs.Profile.{profileOf}
 use Rattle.sheet.specs.declared.file.FileRead.{FileRead}
 use Rattle.sheet.proofs.Plains.{verdict-by}

@@ -1,5 +1,5 @@
 -- `sheet::plain::copy_by` meets its contract.
-use mathlib.Core.Path.{_≡_, sym, ap, _∙_}
+use mathlib.Core.Path.{sym, ap, _∙_}
 use Rattle.sheet.specs.Lines.{linesOf}
 use Rattle.sheet.specs.Written.{fileAnswered, fileLeft}
 use Rattle.sheet.specs.declared.file.FileRead.{FileRead}

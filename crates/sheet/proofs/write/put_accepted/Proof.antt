@@ -1,9 +1,8 @@
 -- `sheet::write::put_accepted` meets its contract.
-use mathlib.Core.Path.{_≡_, refl, sym, ap, _∙_}
+use mathlib.Core.Path.{_≡_, refl, ap, _∙_}
 use Prim.Native.Nat.{ℕ, _+_, _-_, _*_, _≤_, _<_}
 use native.Mathlib.Omega.{arith}
-use lib.ListN.{length, take}
-use lib.Seq.{length-take-le}
+use lib.ListN.{length}
 use Rattle.frame.proofs.Tail.{tail-placed}
 use Rattle.sheet.specs.Lines.{firstLines}
 use Rattle.sheet.specs.File.{recordSize}

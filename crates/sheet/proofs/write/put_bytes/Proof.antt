@@ -1,11 +1,11 @@
 -- `sheet::write::put_bytes` meets its contract.
-use mathlib.Core.Path.{_≡_, sym, ap, _∙_}
+use mathlib.Core.Path.{_≡_, ap, _∙_}
 use Prim.Native.Nat.{ℕ, _*_, _≤_}
 use lib.ListN.{length, take, replicate, length-replicate}
 use lib.Seq.{length-take-le}
 use Rattle.sheet.specs.Lines.{inOrder}
 use Rattle.sheet.specs.File.{recordSize}
-use Rattle.sheet.specs.Computed.{zerosOf, bytesOf}
+use Rattle.sheet.specs.Computed.{bytesOf}
 use Rattle.sheet.proofs.Filled.{filled-tail, in-order-length, bytes-six}
 use borrow.Author.Needs.{needs}
 use Rattle.sheet.proofs.write.put_bytes.Statement.{statement}

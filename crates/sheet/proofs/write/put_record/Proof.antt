@@ -6,7 +6,6 @@ use Rattle.sheet.specs.File.{recordOf}
 use borrow.Author.Needs.{needs}
 use Rattle.sheet.proofs.write.put_record.Statement.{statement}
 use Rattle.sheet.proofs.write.put_record.Tie as tie
-use Rattle.row.proofs.profile.letter_of.Reads as letter-of-reads
 
 slice-write-tail : tie.Need-slice-write-tail
 slice-write-tail c = search needs

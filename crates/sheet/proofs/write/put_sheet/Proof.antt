@@ -1,5 +1,5 @@
 -- `sheet::write::put_sheet` meets its contract.
-use mathlib.Core.Path.{_≡_, refl, sym, _∙_}
+use mathlib.Core.Path.{refl, sym, _∙_}
 use Rattle.sheet.proofs.Sheets.{accepted-short}
 use borrow.Author.Needs.{needs}
 use Rattle.sheet.proofs.write.put_sheet.Statement.{statement}

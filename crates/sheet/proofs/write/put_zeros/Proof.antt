@@ -1,5 +1,5 @@
 -- `sheet::write::put_zeros` meets its contract.
-use mathlib.Core.Path.{_≡_, sym, _∙_}
+use mathlib.Core.Path.{_≡_, _∙_}
 use mathlib.Core.List.{_++_}
 use Prim.Native.Nat.{_-_, _≤_}
 use lib.ListN.{length, drop, replicate}

@@ -1,5 +1,5 @@
 -- `tracker::plain::cell_by` meets its contract.
-use mathlib.Core.Path.{_≡_, sym, ap, _∙_}
+use mathlib.Core.Path.{sym, ap, _∙_}
 use Rattle.tracker.specs.Capture.{captureFed}
 use Rattle.tracker.specs.declared.kept.Tracker.{Tracker}
 use Rattle.tracker.proofs.Plains.{cell-fed, cell-refused}

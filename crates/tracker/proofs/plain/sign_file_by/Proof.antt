@@ -1,5 +1,5 @@
 -- `tracker::plain::sign_file_by` meets its contract.
-use mathlib.Core.Path.{_≡_, sym, ap, _∙_}
+use mathlib.Core.Path.{sym, ap, _∙_}
 use Rattle.sheet.specs.Lines.{linesOf}
 use Rattle.sheet.specs.declared.file.FileRead.{FileRead}
 use Rattle.tracker.specs.Capture.{captureSigned}
