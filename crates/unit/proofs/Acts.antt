@@ -1,0 +1,194 @@
+-- A frame is refused or acts, and what it leaves is legal.
+use mathlib.Core.Path.{_≡_, refl, ap, sym, _∙_, subst}
+use mathlib.Core.Bool.{Bool, true, false, cond, not, _&&_, _||_}
+use mathlib.Core.List.{List, [], _∷_}
+use Prim.Native.Nat.{ℕ}
+use borrow.Author.Tests.{eqb-true, not-true}
+use lib.Dec.{eqb, leb}
+use lib.ListN.{length}
+use Rattle.frame.specs.Refusal.{Line}
+use Rattle.frame.specs.Fields.{dataIn}
+use Rattle.frame.specs.declared.direction.Direction.the-variants.{Command}
+use Rattle.frame.proofs.Cases.{cases}
+use Rattle.frame.proofs.Ruled.{refuses, firstNumber, refused-with, accepted-by, pass-append}
+use Rattle.row.specs.Table.{table, rowOf}
+use Rattle.row.specs.declared.profile.Profile.{Profile}
+use Rattle.row.specs.declared.table.Row.{Row}
+use Rattle.row.specs.declared.table.Found.the-variants as found
+use Rattle.message.specs.Judge.{isSetting, isAnswer, isPair, rowIn, rowLines, judgeLines, rowJudged, wrongLength, wrongValue}
+use Rattle.message.specs.Content.{isOff, contentOf, numberCode, codeFits, isForm}
+use Rattle.message.specs.Message.{said, readOf}
+use Rattle.message.specs.declared.judge.Judged.the-variants as judged
+use Rattle.message.specs.declared.content.Content.{Content}
+use Rattle.message.specs.declared.content.Content.the-variants.{Request, Up, Down, On, Off, Toggle, LevellerOff, Number, Input}
+use Rattle.message.specs.declared.content.Encoded.{Encoded}
+use Rattle.message.specs.declared.content.Encoded.the-variants.{One, Two, NoCode}
+use Rattle.message.specs.declared.read.Reading.the-variants as reading
+use Rattle.message.proofs.Judges.{judge-passes}
+use Rattle.message.proofs.Forms.{form-promise}
+use Rattle.unit.specs.House.{valueAfter}
+use Rattle.unit.specs.Unit.{Cell, value, input, current, Settings, isCell, put, about, Done, refused, acted, doneBy, zoneIn, commandIn, heard, frameDone}
+use Rattle.unit.specs.Legal.{Legal, RowIn}
+use Rattle.unit.proofs.Tests.{clash, both, none-of, implies, implied, upto, upto-at, every, row-passes}
+use Rattle.unit.proofs.Houses.{well, house-promise}
+use Rattle.unit.proofs.Sets.{row-there}
+use Rattle.unit.proofs.Cells.{put-same}
+
+abbrev pub rowFor : Profile → ℕ → Row
+rowFor profile command = rowIn (rowOf profile command)
+
+-- a command that none of the lines refuses: its row, and a form of that row
+pub record Accepted (profile : Profile) (zone command : ℕ) (body : List ℕ) : Type 0 where
+  pub zones : refuses (rowLines profile zone command) ≡ false
+  pub row-in : RowIn profile zone command (rowFor profile command)
+  pub there : rowOf profile command ≡ found.Row (rowFor profile command)
+  pub form : isForm Command (rowFor profile command) (contentOf Command (rowFor profile command) body) ≡ true
+
+pub accepted : (profile : Profile) (zone command : ℕ) (body : List ℕ) → refuses (judgeLines profile Command zone command body) ≡ false → Accepted profile zone command body
+unfolding rowJudged
+accepted profile zone command body e =
+    let row = rowFor profile command in
+    let zones = pass-append (rowLines profile zone command) (wrongLength Command row (length body) ∷ wrongValue Command row body ∷ []) e .0 in
+    let row-in = accepted-by (rowLines profile zone command) judged.Refused (judged.Legal row) zones in
+    let there = row-there profile zone command row row-in .0 in
+    let passes = judge-passes profile Command zone command body e in
+    record {
+      zones = zones;
+      row-in = row-in;
+      there = there;
+      form = form-promise .read profile command row Command body there (record { long = passes .long; value = passes .value }) .0;
+    }
+
+module _ (profile : Profile) (s : Settings) (bytes : List ℕ) where
+  abbrev lines : List Line
+  lines = judgeLines profile Command (zoneIn bytes) (commandIn bytes) (dataIn Command bytes)
+
+  abbrev does : Done
+  does = acted profile s (said profile Command (zoneIn bytes) (commandIn bytes) (dataIn Command bytes))
+
+  pub done-refused : (n : ℕ) → heard profile bytes ≡ reading.Refused n → frameDone profile s bytes ≡ refused s (zoneIn bytes) (commandIn bytes) n
+  unfolding frameDone
+  done-refused n e = ap (doneBy profile s (zoneIn bytes) (commandIn bytes)) e
+
+  pub done-acted : refuses lines ≡ false → frameDone profile s bytes ≡ does
+  unfolding frameDone readOf
+  done-acted e = ap (doneBy profile s (zoneIn bytes) (commandIn bytes)) (accepted-by lines reading.Refused _ e)
+
+  is-refused : refuses lines ≡ true → heard profile bytes ≡ reading.Refused (firstNumber lines)
+  unfolding readOf
+  is-refused e = refused-with lines reading.Refused _ (firstNumber lines) e refl
+
+  -- what holds after a refusal, and after a command that acts, holds after any frame
+  pub either : (P : Done → Type 0) → ((n : ℕ) → P (refused s (zoneIn bytes) (commandIn bytes) n))
+      → (Accepted profile (zoneIn bytes) (commandIn bytes) (dataIn Command bytes) → P does) → P (frameDone profile s bytes)
+  either P denied acts = go (refuses lines) refl
+    where
+      go : (t : Bool) → refuses lines ≡ t → P (frameDone profile s bytes)
+      go true e = subst P (sym (done-refused (firstNumber lines) (is-refused e))) (denied (firstNumber lines))
+      go false e = subst P (sym (done-acted e)) (acts (accepted profile (zoneIn bytes) (commandIn bytes) (dataIn Command bytes) e))
+
+-- a row of pairs has only the request and its pairs
+abbrev pairsAlone : Row → Bool
+pairsAlone row = implies (row .pair) (not (row .steps || (row .switch || (row .toggle || row .off))) && upto 256 (λ b. not (isSetting row b)))
+
+pairs-alone : every pairsAlone table ≡ true
+unfolding table upto
+pairs-alone = refl
+
+module _ (profile : Profile) (command : ℕ) (row : Row) (there : rowOf profile command ≡ found.Row row) (paired : row .pair ≡ true) where
+  alone : (not (row .steps || (row .switch || (row .toggle || row .off))) ≡ true) × (upto 256 (λ b. not (isSetting row b)) ≡ true)
+  alone = both _ _ (implied (row .pair) _ (row-passes pairsAlone pairs-alone profile command row there) paired)
+
+  marks : (row .steps ≡ false) × (row .switch ≡ false) × (row .toggle ≡ false) × (row .off ≡ false)
+  marks = none-of _ _ _ _ (not-true _ (alone .0))
+
+  no-setting : (b : ℕ) → isSetting row b ≡ true → isSetting row b ≡ false
+  no-setting b e =
+      let w = well profile command row there in
+      not-true _ (upto-at 256 (λ b. not (isSetting row b)) (alone .1) b (w .answer-byte b (w .set-answer b e)))
+
+  no-code : {X : Type 0} (x : Encoded) → codeFits Command row x ≡ true → X
+  no-code (One c) f = let s = both (isSetting row c) (not (isOff row c)) f .0 in clash (sym (no-setting c s) ∙ s)
+  no-code (Two b c) f = clash f
+  no-code NoCode f = clash f
+
+  pub paired-form : (P : Content → Type 0) → P Request → ((i : ℕ) (on : Bool) → isAnswer row i ≡ true → P (Input i on)) → (c : Content) → isForm Command row c ≡ true → P c
+  unfolding isForm
+  paired-form P r p Request f = r
+  paired-form P r p Up f = clash (sym (marks .0) ∙ f)
+  paired-form P r p Down f = clash (sym (marks .0) ∙ f)
+  paired-form P r p On f = clash (sym (marks .1) ∙ f)
+  paired-form P r p Off f = clash (sym (marks .1) ∙ f)
+  paired-form P r p Toggle f = clash (sym (marks .2) ∙ f)
+  paired-form P r p LevellerOff f = clash (sym (marks .3) ∙ both (row .off) (isSetting row 0xFF) f .0)
+  paired-form P r p (Number z) f = no-code (numberCode row z) f
+  paired-form P r p (Input i on) f = p i on (both (row .pair) (isAnswer row i) f .1)
+
+pub bit-small : (on : Bool) → leb (cond on 0x01 0x00) 1 ≡ true
+bit-small true = refl
+bit-small false = refl
+
+module _ (profile : Profile) (s : Settings) (l : Legal profile s) where
+  -- a row's value in a zone, and an input's, put where they are legal
+  put-value : (zone command v : ℕ) → ((row : Row) → RowIn profile zone command row → row .pair ≡ false → isAnswer row v ≡ true) → Legal profile (put s (value zone command) v)
+  put-value zone command v fits = record {
+    rows = λ z c row there single. go z c row there single (isCell (value zone command) (value z c)) refl;
+    inputs = l .inputs;
+    now = l .now;
+  }
+    where
+      go : (z c : ℕ) (row : Row) → RowIn profile z c row → row .pair ≡ false → (t : Bool) → isCell (value zone command) (value z c) ≡ t
+          → isAnswer row (cond t v (s (value z c))) ≡ true
+      go z c row there single true e =
+          let (same-zone, same-command) = both (eqb zone z) (eqb command c) e in
+          fits row (rw (eqb-true zone z same-zone, eqb-true command c same-command) there) single
+      go z c row there single false e = l .rows z c row there single
+
+  put-input : (i v : ℕ) → leb v 1 ≡ true → Legal profile (put s (input i) v)
+  put-input i v small = record {
+    rows = l .rows;
+    inputs = λ z c row there paired j known. go z c row there paired j known (isCell (input i) (input j)) refl;
+    now = l .now;
+  }
+    where
+      go : (z c : ℕ) (row : Row) → RowIn profile z c row → row .pair ≡ true → (j : ℕ) → isAnswer row j ≡ true → (t : Bool) → isCell (input i) (input j) ≡ t
+          → isPair row j (cond t v (s (input j))) ≡ true
+      go z c row there paired j known true e = rw (paired, small, known)
+      go z c row there paired j known false e = l .inputs z c row there paired j known
+
+  module _ (zone command : ℕ) (body : List ℕ) (a : Accepted profile zone command body) where
+    -- the value that a command makes is legal in its row
+    pub made-legal : (c : Content) → isForm Command (rowFor profile command) c ≡ true → (row : Row) → RowIn profile zone command row → row .pair ≡ false
+        → isAnswer row (valueAfter (rowFor profile command) c (s (value zone command))) ≡ true
+    made-legal c f row there single =
+        let same : row ≡ rowFor profile command = row-there profile zone command row there .1 in
+        let alone : rowFor profile command .pair ≡ false = rw (← same) single in
+        rw same (house-promise profile command (rowFor profile command) (a .there) .legal alone (s (value zone command)) (l .rows zone command (rowFor profile command) (a .row-in) alone) c f)
+
+    abbrev made : Content → Cell → Settings
+    made c x = put s x (valueAfter (rowFor profile command) c (s x))
+
+    said-legal : (c : Content) → isForm Command (rowFor profile command) c ≡ true → Legal profile (made c (about (rowFor profile command) s zone command c))
+    said-legal c f = go (rowFor profile command .pair) refl
+      where
+        go : (t : Bool) → rowFor profile command .pair ≡ t → Legal profile (made c (about (rowFor profile command) s zone command c))
+        go true e =
+            paired-form profile command (rowFor profile command) (a .there) e (λ c. Legal profile (made c (about (rowFor profile command) s zone command c)))
+            (subst (Legal profile) (sym (put-same s (about (rowFor profile command) s zone command Request))) l)
+            (λ i on known. rw e (put-input i (cond on 0x01 0x00) (bit-small on))) c f
+        go false e = rw e (put-value zone command (valueAfter (rowFor profile command) c (s (value zone command))) (made-legal c f))
+
+pub frame-legal : (profile : Profile) (s : Settings) (bytes : List ℕ) → Legal profile s → Legal profile (frameDone profile s bytes .settings)
+frame-legal profile s bytes l =
+    either profile s bytes (λ (d : Done). Legal profile (d .settings)) (λ n. l)
+    (λ a. said-legal profile s l (zoneIn bytes) (commandIn bytes) (dataIn Command bytes) a _ (a .form))
+
+-- no command is about the current input
+not-current : (row : Row) (s : Settings) (zone command : ℕ) (c : Content) → isCell (about row s zone command c) current ≡ false
+not-current row s zone command c = cases (λ (x : Cell). isCell x current ≡ false) (row .pair) (λ e. refl) (λ e. refl)
+
+pub frame-now : (profile : Profile) (s : Settings) (bytes : List ℕ) → frameDone profile s bytes .settings current ≡ s current
+frame-now profile s bytes =
+    let row = rowFor profile (commandIn bytes) in
+    either profile s bytes (λ (d : Done). d .settings current ≡ s current) (λ n. refl)
+    (λ a. rw (not-current row s (zoneIn bytes) (commandIn bytes) (contentOf Command row (dataIn Command bytes))))

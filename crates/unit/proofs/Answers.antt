@@ -1,0 +1,213 @@
+-- The answers of a unit, as the library reads them.
+use mathlib.Core.Path.{_≡_, refl, ap, sym, _∙_, subst}
+use mathlib.Core.Bool.{Bool, true, false, cond, _&&_}
+use mathlib.Core.List.{List, [], _∷_, _++_}
+use mathlib.Core.Logic.{_⊎_, inl, inr}
+use Prim.Native.Nat.{ℕ, zero, suc, _<_}
+use native.Mathlib.Omega.{arith}
+use borrow.Author.Tests.{leb-true}
+use lib.Dec.{eqb, leb}
+use lib.ListN.{length, getD}
+use Rattle.frame.specs.Refusal.{Line}
+use Rattle.frame.specs.Frame.{frameOf}
+use Rattle.frame.specs.Fields.{dataIn}
+use Rattle.frame.specs.RulePromise.{First}
+use Rattle.frame.specs.declared.direction.Direction.the-variants.{Command, Answer}
+use Rattle.frame.proofs.Back.{frame-promise}
+use Rattle.frame.proofs.Cases.{cases}
+use Rattle.frame.proofs.Ruled.{was-accepted, accepted-by, append-pass, pass-both}
+use Rattle.row.specs.declared.profile.Profile.{Profile}
+use Rattle.row.specs.declared.table.Row.{Row}
+use Rattle.message.specs.Judge.{isAnswer, isPair, rowLines, judgeLines, wrongLength, wrongValue}
+use Rattle.message.specs.Content.{contentOf, isForm}
+use Rattle.message.specs.Message.{said, readLines, readOf, fromReading, frameRead}
+use Rattle.message.specs.declared.content.Content.{Content}
+use Rattle.message.specs.declared.read.Said.{Said}
+use Rattle.message.specs.declared.read.Message.the-variants as message
+use Rattle.message.specs.declared.read.Reading.the-variants as reading
+use Rattle.message.proofs.Order.{order-promise}
+use Rattle.message.proofs.Readings.{frame-some}
+use Rattle.message.specs.FormPromise.{LegalData}
+use Rattle.unit.specs.House.{valueAfter}
+use Rattle.unit.specs.Unit.{Cell, value, input, current, Settings, put, about, shown, Done, refusalCode, acted, zoneIn, commandIn, heard, frameDone}
+use Rattle.unit.specs.Legal.{Legal}
+use Rattle.unit.specs.Sending.{Each, Bytes}
+use Rattle.unit.specs.UnitPromise.{Told, Denied, DonePromise}
+use Rattle.unit.proofs.Tests.{both}
+use Rattle.unit.proofs.Cells.{cell-self}
+use Rattle.unit.proofs.Houses.{well}
+use Rattle.unit.proofs.Acts.{either, bit-small, paired-form, rowFor, Accepted, accepted, done-refused, done-acted, made-legal, frame-legal, frame-now}
+
+-- an answer's frame reads as its fields do
+answer-reads : (profile : Profile) (zone command ac : ℕ) (body : List ℕ)
+    → frameRead profile Answer (frameOf Answer zone command ac body) ≡ fromReading (readOf profile Answer zone command ac body)
+answer-reads profile zone command ac body =
+    let b = frame-promise .brought Answer zone command ac body in
+    frame-some profile Answer (frameOf Answer zone command ac body) (record { zone = zone; command = command; answer = ac }) (b .head)
+    ∙ ap (λ (xs : List ℕ). fromReading (readOf profile Answer zone command ac xs)) (b .load)
+
+-- a refusal is answered with a code that denies
+denied-reads : (profile : Profile) (zone command n : ℕ)
+    → readOf profile Answer zone command (refusalCode n) [] ≡ reading.Message (message.Denied (record { zone = zone; command = command; answer = refusalCode n }))
+unfolding readOf
+denied-reads profile zone command n =
+    cases Denies (eqb n 1) (λ e. refl) (λ e. cases Denies (eqb n 2) (λ f. refl) (λ f. cases Denies (eqb n 3) (λ g. refl) (λ g. refl)))
+  where
+    Denies : ℕ → Type 0
+    Denies ac = readOf profile Answer zone command ac [] ≡ reading.Message (message.Denied (record { zone = zone; command = command; answer = ac }))
+
+-- a command is refused with one of the four numbers
+first-of : (P : ℕ → Type 0) (ls : List Line) → Each (λ (x : Line). P (x .number)) ls → (n : ℕ) → First ls n → P n
+first-of P [] e n w = absurd w
+first-of P (x ∷ ls) e n (inl w) = subst P (w .1) (e .0)
+first-of P (x ∷ ls) e n (inr w) = first-of P ls (e .1) n (w .1)
+
+four : (profile : Profile) (zone command : ℕ) (body : List ℕ) (n : ℕ) → readOf profile Command zone command 0 body ≡ reading.Refused n
+    → (n ≡ 1) ⊎ (n ≡ 2) ⊎ (n ≡ 3) ⊎ (n ≡ 4)
+four profile zone command body n e =
+    first-of (λ k. (k ≡ 1) ⊎ (k ≡ 2) ⊎ (k ≡ 3) ⊎ (k ≡ 4)) (judgeLines profile Command zone command body)
+    (inl refl, (inr (inl refl), (inl refl, (inr (inr (inl refl)), (inr (inr (inr refl)), tt))))) n
+    (order-promise profile Command zone command 0 body .applies n e)
+
+-- a command that was accepted, at legal settings
+module _ (profile : Profile) (s : Settings) (l : Legal profile s) (z k : ℕ) (d : List ℕ) (a : Accepted profile z k d) where
+  abbrev r : Row
+  r = rowFor profile k
+
+  abbrev x : Content → Cell
+  x c = about r s z k c
+
+  -- what a cell shows is legal in an answer of the row
+  Shows : Cell → ℕ → Type 0
+  Shows y w = LegalData Answer r (shown y w) × ((y ≡ value z k) ⊎ ((i : ℕ) × (y ≡ input i)))
+
+  shows-pair : (i w : ℕ) → r .pair ≡ true → isPair r i w ≡ true → Shows (input i) w
+  unfolding Shows
+  shows-pair i w paired e = (record { long = paired; value = e }, inr (i, refl))
+
+  shows-single : (w : ℕ) → r .pair ≡ false → isAnswer r w ≡ true → Shows (value z k) w
+  unfolding Shows
+  shows-single w single e = (record { long = rw single; value = e }, inl refl)
+
+  shows : (c : Content) → isForm Command r c ≡ true → Shows (x c) (valueAfter r c (s (x c)))
+  shows c f = go (r .pair) refl
+    where
+      go : (t : Bool) → r .pair ≡ t → Shows (x c) (valueAfter r c (s (x c)))
+      go true e =
+          paired-form profile k r (a .there) e (λ c. Shows (x c) (valueAfter r c (s (x c))))
+          (rw e (shows-pair (s current) (s (input (s current))) e (l .inputs z k r (a .row-in) e (s current) (l .now z k r (a .row-in) e))))
+          (λ i on known. rw e (shows-pair i (cond on 0x01 0x00) e (rw (e, bit-small on, known)))) c f
+      go false e = rw e (shows-single (valueAfter r c (s (value z k))) e (made-legal profile s l z k d a c f r (a .row-in) e))
+
+  -- legal data of an answer are read as a status
+  status-reads : (b : List ℕ) → LegalData Answer r b → readOf profile Answer z k 0 b ≡ reading.Message (message.Status (said profile Answer z k b))
+  unfolding readOf
+  status-reads b h =
+      let data-pass = pass-both (wrongLength Answer r (length b)) (wrongValue Answer r b ∷ []) (rw (h .long)) (pass-both (wrongValue Answer r b) [] (rw (h .value)) refl) in
+      let pass = append-pass (rowLines profile z k) (wrongLength Answer r (length b) ∷ wrongValue Answer r b ∷ []) (a .zones) data-pass in
+      accepted-by (readLines profile Answer z k 0 b) reading.Refused _ pass
+
+  abbrev c : Content
+  c = contentOf Command r d
+
+  abbrev later : Settings
+  later = put s (x c) (valueAfter r c (s (x c)))
+
+  held : later (x c) ≡ valueAfter r c (s (x c))
+  held = rw (cell-self (x c))
+
+  data-legal : LegalData Answer r (shown (x c) (later (x c)))
+  unfolding Shows
+  data-legal = rw held (shows c (a .form) .0)
+
+  told-said : Told profile (said profile Command z k d) (acted profile s (said profile Command z k d))
+  unfolding Shows
+  told-said = record {
+    cell = x c;
+    which = shows c (a .form) .1;
+    shows = refl;
+    status = answer-reads profile z k 0x00 (shown (x c) (later (x c))) ∙ ap fromReading (status-reads (shown (x c) (later (x c))) data-legal);
+  }
+
+  -- and they are bytes
+  shown-bytes : (y : Cell) (w : ℕ) → LegalData Answer r (shown y w) → Bytes (shown y w)
+  shown-bytes (value zone command) w h = (well profile k r (a .there) .answer-byte w (h .value), tt)
+  shown-bytes (input i) w h =
+      let (paired, rest) = both (r .pair) (leb w 1 && isAnswer r i) (h .value) in
+      let (small, known) = both (leb w 1) (isAnswer r i) rest in
+      (well profile k r (a .there) .answer-byte i known, (omega (arith, leb-true w 1 small), tt))
+  shown-bytes current w h = (well profile k r (a .there) .answer-byte w (h .value), tt)
+
+-- a frame's promise
+module _ (profile : Profile) (s : Settings) (bytes : List ℕ) where
+  frame-denied : (n : ℕ) → heard profile bytes ≡ reading.Refused n → Denied profile bytes n (frameDone profile s bytes)
+  frame-denied n e =
+      let z = zoneIn bytes in
+      let k = commandIn bytes in
+      record {
+        number = four profile z k (dataIn Command bytes) n e;
+        denial = ap (λ (d : Done). frameRead profile Answer (d .answer)) (done-refused profile s bytes n e)
+            ∙ answer-reads profile z k (refusalCode n) [] ∙ ap fromReading (denied-reads profile z k n);
+      }
+
+  frame-told : Legal profile s → (c : Said) → heard profile bytes ≡ reading.Message (message.Command c) → Told profile c (frameDone profile s bytes)
+  unfolding readOf
+  frame-told l c e =
+      let z = zoneIn bytes in
+      let k = commandIn bytes in
+      let d = dataIn Command bytes in
+      let w = was-accepted (judgeLines profile Command z k d) reading.Refused (reading.Message (message.Command (said profile Command z k d))) (reading.Message (message.Command c)) e differ in
+      subst (λ (y : Said). Told profile y (frameDone profile s bytes)) (same (w .1))
+      (subst (Told profile (said profile Command z k d)) (sym (done-acted profile s bytes (w .0))) (told-said profile s l z k d (accepted profile z k d (w .0))))
+    where
+      differ : (n : ℕ) → reading.Refused n ≡ reading.Message (message.Command c) → ⊥
+      differ n f = let y : _≡_ {A = ℕ} 0 1 = cc in omega arith
+
+      same : {y : Said} → reading.Message (message.Command y) ≡ reading.Message (message.Command c) → y ≡ c
+      same f = cc
+
+  pub done-promise : DonePromise profile s bytes
+  done-promise = record {
+    legal = frame-legal profile s bytes;
+    now = frame-now profile s bytes;
+    kept = λ n e. ap (λ (d : Done). d .settings) (done-refused profile s bytes n e);
+    denied = frame-denied;
+    told = frame-told;
+  }
+
+-- the bytes of an answer's frame
+pub bytes-append : (bs cs : List ℕ) → Bytes bs → Bytes cs → Bytes (bs ++ cs)
+bytes-append [] cs h g = g
+bytes-append (b ∷ bs) cs h g = (h .0, bytes-append bs cs (h .1) g)
+
+byte-at : (bs : List ℕ) (i : ℕ) → Bytes bs → getD bs i 0 < 256
+byte-at [] i h = omega arith
+byte-at (b ∷ bs) zero h = h .0
+byte-at (b ∷ bs) (suc i) h = byte-at bs i (h .1)
+
+answer-bytes : (zone command ac : ℕ) (body : List ℕ) → zone < 256 → command < 256 → ac < 256 → length body < 256 → Bytes body → Bytes (frameOf Answer zone command ac body)
+unfolding frameOf
+answer-bytes zone command ac body z c a n b = (omega arith, (z, (c, (a, (n, bytes-append body (0x0D ∷ []) b (omega arith, tt))))))
+
+code-small : (n : ℕ) → refusalCode n < 256
+code-small n =
+    cases (λ (k : ℕ). k < 256) (eqb n 1) (λ e. omega arith) (λ e. cases (λ (k : ℕ). k < 256) (eqb n 2) (λ f. omega arith) (λ f. cases (λ (k : ℕ). k < 256) (eqb n 3) (λ g. omega arith) (λ g. omega arith)))
+
+shown-short : (y : Cell) (w : ℕ) → length (shown y w) < 256
+shown-short (value zone command) w = omega arith
+shown-short (input i) w = omega arith
+shown-short current w = omega arith
+
+pub frame-bytes : (profile : Profile) (s : Settings) (bytes : List ℕ) → Legal profile s → Bytes bytes → Bytes (frameDone profile s bytes .answer)
+frame-bytes profile s bytes l h =
+    let z = zoneIn bytes in
+    let k = commandIn bytes in
+    let d = dataIn Command bytes in
+    let small : z < 256 = byte-at bytes 1 h in
+    let low : k < 256 = byte-at bytes 2 h in
+    either profile s bytes (λ (x : Done). Bytes (x .answer))
+    (λ n. answer-bytes z k (refusalCode n) [] small low (code-small n) (omega arith) tt)
+    (λ a.
+    let y = x profile s l z k d a (c profile s l z k d a) in
+    let w = later profile s l z k d a y in
+    answer-bytes z k 0x00 (shown y w) small low (omega arith) (shown-short y w) (shown-bytes profile s l z k d a y w (data-legal profile s l z k d a)))

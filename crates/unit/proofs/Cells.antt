@@ -1,0 +1,43 @@
+-- Cells are told apart; what holds of each in a list.
+use mathlib.Core.Path.{_≡_, refl, ap, fun-ext}
+use mathlib.Core.Bool.{Bool, true, false, cond}
+use mathlib.Core.List.{List, [], _∷_}
+use borrow.Author.Tests.{eq-eqb, eqb-true}
+use lib.Dec.{eqb}
+use Rattle.unit.specs.Unit.{Cell, value, input, current, Settings, isCell, put}
+use Rattle.unit.specs.Sending.{Each}
+use Rattle.unit.proofs.Tests.{clash, both}
+
+pub is-cell : (x y : Cell) → isCell x y ≡ true → x ≡ y
+is-cell (value z c) (value z′ c′) e =
+    let (zone, command) = both (eqb z z′) (eqb c c′) e in
+    rw (eqb-true z z′ zone, eqb-true c c′ command)
+is-cell (value z c) (input j) e = clash e
+is-cell (value z c) current e = clash e
+is-cell (input i) (value z c) e = clash e
+is-cell (input i) (input j) e = ap input (eqb-true i j e)
+is-cell (input i) current e = clash e
+is-cell current (value z c) e = clash e
+is-cell current (input j) e = clash e
+is-cell current current e = refl
+
+pub cell-self : (x : Cell) → isCell x x ≡ true
+cell-self (value z c) = rw (eq-eqb z z refl, eq-eqb c c refl)
+cell-self (input i) = eq-eqb i i refl
+cell-self current = refl
+
+-- a cell with its own value again
+pub put-same : (s : Settings) (x : Cell) → put s x (s x) ≡ s
+put-same s x = fun-ext (λ y. go y (isCell x y) refl)
+  where
+    go : (y : Cell) (t : Bool) → isCell x y ≡ t → cond t (s x) (s y) ≡ s y
+    go y true e = ap s (is-cell x y e)
+    go y false e = refl
+
+pub each-map : {A : Type 0} (P Q : A → Type 0) (xs : List A) → ((x : A) → P x → Q x) → Each P xs → Each Q xs
+each-map P Q [] f e = tt
+each-map P Q (x ∷ xs) f e = (f x (e .0), each-map P Q xs f (e .1))
+
+pub each-zip : {A : Type 0} (P Q R : A → Type 0) (xs : List A) → ((x : A) → P x → Q x → R x) → Each P xs → Each Q xs → Each R xs
+each-zip P Q R [] f e g = tt
+each-zip P Q R (x ∷ xs) f e g = (f x (e .0) (g .0), each-zip P Q R xs f (e .1) (g .1))

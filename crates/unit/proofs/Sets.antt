@@ -1,0 +1,133 @@
+-- A legal line's frame puts its value in its own cell and touches nothing else, whatever the cell held.
+use mathlib.Core.Path.{_≡_, refl, ap, sym, _∙_}
+use mathlib.Core.Bool.{Bool, true, false, not, _&&_}
+use mathlib.Core.List.{[], _∷_}
+use Prim.Native.Nat.{ℕ}
+use borrow.Author.Tests.{not-true}
+use lib.Dec.{eqb}
+use Rattle.frame.specs.Frame.{frameOf}
+use Rattle.frame.specs.declared.direction.Direction.the-variants.{Command, Answer}
+use Rattle.frame.proofs.Ruled.{pass-first}
+use Rattle.row.specs.Table.{table, rowOf}
+use Rattle.row.specs.declared.profile.Profile.{Profile}
+use Rattle.row.specs.declared.table.Row.{Row}
+use Rattle.row.specs.declared.table.Found.{Found}
+use Rattle.row.specs.declared.table.Found.the-variants as found
+use Rattle.message.specs.Judge.{isSetting, isMissing, rowIn, profileZone, noRow, rowZone, rowLines, rowJudged, judgedOf}
+use Rattle.message.specs.Content.{contentOf}
+use Rattle.message.specs.Message.{readOf}
+use Rattle.message.specs.declared.judge.Judged.{Judged}
+use Rattle.message.specs.declared.judge.Judged.the-variants as judged
+use Rattle.message.specs.declared.content.Content.{Content}
+use Rattle.message.specs.declared.read.Message.the-variants as message
+use Rattle.message.specs.declared.read.Reading.the-variants as reading
+use Rattle.message.proofs.Judges.{judged-legal, judge-legal}
+use Rattle.message.proofs.Readings.{said-legal, message-said}
+use Rattle.sheet.specs.Line.{legalIn, isLegal}
+use Rattle.sheet.specs.Run.{lineFrame}
+use Rattle.sheet.specs.declared.line.Line.{Line}
+use Rattle.unit.specs.House.{isNotCalculated, valueAfter}
+use Rattle.unit.specs.Unit.{Cell, value, Settings, put, about, shown, Done, doneBy, frameDone}
+use Rattle.unit.specs.Sending.{cellOf}
+use Rattle.unit.specs.UnitPromise.{LinePromise}
+use Rattle.unit.proofs.Tests.{clash, both, implies, implied, every, row-passes}
+use Rattle.unit.proofs.Cells.{cell-self}
+use Rattle.unit.proofs.Houses.{house-promise}
+
+-- the row that was found for a zone and command
+found-there : (f : Found) → isMissing f ≡ false → f ≡ found.Row (rowIn f)
+found-there (found.Row row) e = refl
+found-there found.NoRow e = clash (sym e)
+
+pub row-there : (profile : Profile) (zone command : ℕ) (row : Row) → rowJudged profile zone command ≡ judged.Legal row
+    → (rowOf profile command ≡ found.Row row) × (row ≡ rowIn (rowOf profile command))
+unfolding rowJudged
+row-there profile zone command row e =
+    let is = judged-legal (rowLines profile zone command) (rowIn (rowOf profile command)) row e in
+    let rest = pass-first (profileZone profile zone) (noRow profile command ∷ rowZone (rowIn (rowOf profile command)) zone ∷ []) (is .0) .1 in
+    let here = pass-first (noRow profile command) (rowZone (rowIn (rowOf profile command)) zone ∷ []) rest .0 in
+    (found-there (rowOf profile command) here ∙ ap found.Row (sym (is .1)), is .1)
+
+-- neither room EQ nor the row of pairs is a sheet row
+abbrev plain : Row → Bool
+plain row = implies (row .sheet) (not (row .pair) && not (eqb (row .code) 0x37))
+
+all-plain : every plain table ≡ true
+unfolding table
+all-plain = refl
+
+-- what makes a line legal
+pub record Line-legal (profile : Profile) (l : Line) : Type 0 where
+  pub row : Row
+  pub judged : rowJudged profile (l .zone) (l .command) ≡ judged.Legal row
+  pub sheet : row .sheet ≡ true
+  pub setting : isSetting row (l .value) ≡ true
+
+pub line-legal : (profile : Profile) (l : Line) → isLegal profile l ≡ true → Line-legal profile l
+unfolding isLegal
+line-legal profile l e = go (rowJudged profile (l .zone) (l .command)) refl e
+  where
+    go : (j : Judged) → rowJudged profile (l .zone) (l .command) ≡ j → legalIn j (l .value) ≡ true → Line-legal profile l
+    go (judged.Legal row) f g = let (sheet, setting) = both (row .sheet) (isSetting row (l .value)) g in record { row = row; judged = f; sheet = sheet; setting = setting }
+    go (judged.Refused n) f g = clash g
+
+module _ (profile : Profile) (l : Line) (legal : isLegal profile l ≡ true) where
+  abbrev w : Line-legal profile l
+  w = line-legal profile l legal
+
+  abbrev row : Row
+  row = w .row
+
+  there : rowOf profile (l .command) ≡ found.Row row
+  there = row-there profile (l .zone) (l .command) row (w .judged) .0
+
+  abbrev says : Content
+  says = contentOf Command row (l .value ∷ [])
+
+  judged-so : judgedOf profile Command (l .zone) (l .command) (l .value ∷ []) ≡ judged.Legal row
+  judged-so = judge-legal profile Command (l .zone) (l .command) (l .value ∷ []) row (w .judged) ∙ rw (w .setting)
+
+  -- the frame is read as the command that sets the value
+  reads : readOf profile Command (l .zone) (l .command) 0 (l .value ∷ []) ≡ reading.Message (message.Command (record { zone = l .zone; command = l .command; content = says }))
+  unfolding readOf
+  reads =
+      message-said profile Command (l .zone) (l .command) (l .value ∷ []) message.Command _
+      (said-legal profile Command (l .zone) (l .command) (l .value ∷ []) row judged-so)
+
+  is-plain : (row .pair ≡ false) × (eqb (row .code) 0x37 ≡ false)
+  is-plain =
+      let (single, other) = both (not (row .pair)) (not (eqb (row .code) 0x37)) (implied (row .sheet) _ (row-passes plain all-plain profile (l .command) row there) (w .sheet)) in
+      (not-true _ single, not-true _ other)
+
+  about-cell : (s : Settings) → about row s (l .zone) (l .command) says ≡ cellOf l
+  about-cell s = let single = is-plain .0 in rw single
+
+  calculated : (v : ℕ) → isNotCalculated row v ≡ false
+  calculated v = let other = is-plain .1 in rw other
+
+  holds : (v : ℕ) → valueAfter row says v ≡ l .value
+  holds v = house-promise profile (l .command) row there .set v (l .value) (calculated v) (w .setting)
+
+  -- what is done about a cell, over the row that was found
+  abbrev does : Row → Settings → Cell → Done
+  does r s x =
+      let later = put s x (valueAfter r says (s x)) in
+      record { settings = later; answer = frameOf Answer (l .zone) (l .command) 0x00 (shown x (later x)) }
+
+  frame-does : (s : Settings) → frameDone profile s (lineFrame l) ≡ does row s (cellOf l)
+  unfolding frameDone frameOf
+  frame-does s =
+      ap (doneBy profile s (l .zone) (l .command)) reads
+      ∙ ap (λ (r : Row). does r s (about r s (l .zone) (l .command) says)) (sym (row-there profile (l .zone) (l .command) row (w .judged) .1))
+      ∙ ap (does row s) (about-cell s)
+
+  frame-sets : (s : Settings) → frameDone profile s (lineFrame l) .settings ≡ put s (cellOf l) (l .value)
+  frame-sets s = ap (λ (d : Done). d .settings) (frame-does s) ∙ ap (put s (cellOf l)) (holds (s (cellOf l)))
+
+  frame-answers : (s : Settings) → frameDone profile s (lineFrame l) .answer ≡ frameOf Answer (l .zone) (l .command) 0x00 (l .value ∷ [])
+  frame-answers s =
+      let held : does row s (cellOf l) .settings (cellOf l) ≡ l .value = rw (cell-self (cellOf l)) (holds (s (cellOf l))) in
+      ap (λ (d : Done). d .answer) (frame-does s) ∙ ap (λ (v : ℕ). frameOf Answer (l .zone) (l .command) 0x00 (v ∷ [])) held
+
+pub line-promise : (profile : Profile) (s : Settings) (l : Line) → LinePromise profile s l
+line-promise profile s l = record { sets = λ e. frame-sets profile l e s; answers = λ e. frame-answers profile l e s }

@@ -1,0 +1,14 @@
+-- The table of trials, computed.
+use mathlib.Core.Path.{refl}
+use Rattle.frame.specs.Frame.{frameOf}
+use Rattle.frame.specs.Reader.{answerTo, takenAfter}
+use Rattle.row.specs.Table.{table, firstRow}
+use Rattle.row.specs.Signed.{numberOf, codeOf, plainCodeOf}
+use Rattle.message.specs.Content.{contentOf}
+use Rattle.message.specs.Message.{readOf}
+use Rattle.unit.specs.Unit.{frameDone, after, replies}
+use Rattle.unit.specs.UnitTablePromise.{trials, UnitTablePromise}
+
+pub unit-table-promise : UnitTablePromise
+unfolding trials after replies frameDone frameOf answerTo takenAfter readOf contentOf firstRow table numberOf codeOf plainCodeOf
+unit-table-promise = record { holds = refl }

@@ -1,0 +1,130 @@
+-- Demand 3's premises can be met, computed: legal settings that differ from an accepted sheet of twelve lines, and a plug pulled inside
+-- a frame. And 254 zeros do not suffice.
+use mathlib.Core.Path.{_≡_, refl, sym, _∙_}
+use mathlib.Core.Bool.{Bool, true, false, cond}
+use mathlib.Core.List.{List, [], _∷_, map}
+use Prim.Native.Nat.{ℕ}
+use native.Mathlib.Omega.{arith}
+use lib.Dec.{eqb}
+use lib.ListN.{take, replicate}
+use Rattle.frame.specs.Frame.{frameOf}
+use Rattle.frame.specs.Reader.{answerTo, takenAfter, takenBy}
+use Rattle.row.specs.Signed.{numberOf, codeOf, plainCodeOf}
+use Rattle.row.specs.Table.{table, firstRow}
+use Rattle.row.specs.declared.profile.Profile.{Profile}
+use Rattle.row.specs.declared.profile.Profile.the-variants.{A}
+use Rattle.row.specs.declared.table.Row.{Row}
+use Rattle.message.specs.Judge.{isAnswer, rowJudged}
+use Rattle.message.specs.Content.{contentOf}
+use Rattle.message.specs.Message.{readOf}
+use Rattle.sheet.specs.Lines.{inOrder}
+use Rattle.sheet.specs.Line.{isLegal, isRepeated}
+use Rattle.sheet.specs.Check.{lowestFault, sheetVerdict}
+use Rattle.sheet.specs.Run.{runOf}
+use Rattle.sheet.specs.declared.line.Line.{Line}
+use Rattle.sheet.specs.declared.check.Verdict.the-variants.{Accepted}
+use Rattle.unit.specs.Unit.{value, Unit, frameDone, after}
+use Rattle.unit.specs.Legal.{Legal, RowIn}
+use Rattle.unit.specs.Sending.{cellOf, sending, sendings}
+use Rattle.unit.specs.UnitTablePromise.{zeros}
+use Rattle.unit.specs.Demand3.{stopped, Promised}
+use Rattle.unit.specs.SendingPromise.{SendingPromise}
+use Rattle.unit.proofs.Tests.{every, row-passes}
+use Rattle.unit.proofs.Sets.{row-there}
+use Rattle.unit.proofs.Demand.{demand-3}
+
+-- 00 in every row, and input 01, are legal in both profiles
+abbrev zeroFits : Row → Bool
+zeroFits row = cond (row .pair) (isAnswer row 0x01) (isAnswer row 0x00)
+
+zero-fits : every zeroFits table ≡ true
+unfolding table
+zero-fits = refl
+
+pub zeros-legal : (profile : Profile) → Legal profile zeros
+zeros-legal profile = record {
+  rows = λ z c row there single. rw single at (fits z c row there);
+  inputs = λ z c row there paired i known. rw (paired, known);
+  now = λ z c row there paired. rw paired at (fits z c row there);
+}
+  where
+    fits : (z c : ℕ) (row : Row) → RowIn profile z c row → zeroFits row ≡ true
+    fits z c row there = row-passes zeroFits zero-fits profile c row (row-there profile z c row there .0)
+
+abbrev line : ℕ → ℕ → ℕ → Line
+line zone command v = record { zone = zone; command = command; value = v }
+
+-- twelve lines of A, none of them 00
+abbrev pub twelve : List Line
+twelve =
+    line 1 0x38 0x02 ∷ line 2 0x38 0x01 ∷ line 3 0x38 0x02
+    ∷ line 1 0x39 0xFF ∷ line 2 0x39 0x0A ∷ line 3 0x39 0x05
+    ∷ line 1 0x3A 0x85 ∷ line 2 0x3A 0x0F ∷ line 3 0x3A 0x8F
+    ∷ line 1 0x46 0x8A ∷ line 2 0x46 0x0A ∷ line 3 0x45 0x81
+    ∷ []
+
+pub accepted : sheetVerdict A twelve ≡ Accepted
+unfolding sheetVerdict lowestFault isLegal isRepeated rowJudged firstRow table
+accepted = refl
+
+-- a unit at legal settings, none of which is the sheet's, stopped after 21 01 3A FF 05, with 254 bytes of data to come
+abbrev before : List ℕ
+before = 0x21 ∷ 0x01 ∷ 0x3A ∷ 0xFF ∷ 0x05 ∷ []
+
+abbrev start : Unit
+start = stopped A zeros before
+
+pub differs : map (λ (l : Line). eqb (zeros (cellOf l)) (l .value)) twelve ≡ replicate 12 false
+differs = refl
+
+-- the plug pulled after 277 bytes, inside the fourth frame; pulled again inside the flush; then a full run
+abbrev cuts : List ℕ
+cuts = 277 ∷ 100 ∷ []
+
+abbrev sent : List ℕ
+sent = sendings cuts (runOf twelve)
+
+pub applied : Promised start twelve sent
+applied =
+    demand-3 .holds A zeros before twelve cuts (zeros-legal A)
+    (omega arith, (omega arith, (omega arith, (omega arith, (omega arith, tt))))) accepted
+
+-- what it says, computed beside it: at the first cut three lines are set and the reader stands inside the fourth's frame; at the end
+-- all are
+pub pulled : map (λ (l : Line). after start (take 277 sent) .settings (cellOf l)) twelve ≡ 0x02 ∷ 0x01 ∷ 0x02 ∷ replicate 9 0x00
+unfolding runOf inOrder after frameDone frameOf answerTo takenAfter takenBy readOf contentOf firstRow table numberOf codeOf plainCodeOf
+pulled = refl
+
+pub pulled-inside : after start (take 277 sent) .taken ≡ 0x21 ∷ 0x01 ∷ 0x39 ∷ []
+unfolding runOf inOrder after frameDone frameOf answerTo takenAfter takenBy readOf contentOf firstRow table numberOf codeOf plainCodeOf
+pulled-inside = refl
+
+pub reached : map (λ (l : Line). after start sent .settings (cellOf l)) twelve ≡ map (λ (l : Line). l .value) twelve
+unfolding runOf inOrder after frameDone frameOf answerTo takenAfter takenBy readOf contentOf firstRow table numberOf codeOf plainCodeOf
+reached = refl
+
+-- a unit stopped after 21 01 3A FF, with all of 255 bytes of data to come, and a sheet of one line
+abbrev stuck : Unit
+stuck = stopped A zeros (0x21 ∷ 0x01 ∷ 0x3A ∷ 0xFF ∷ [])
+
+abbrev single : List Line
+single = line 1 0x3A 0x05 ∷ []
+
+-- with 254 zeros the line's 21 is taken for data, and its frame is lost; with 255 it falls on the end place
+lost : after stuck (sending 254 single) .settings (value 1 0x3A) ≡ 0x00
+unfolding inOrder after frameDone frameOf answerTo takenAfter takenBy readOf contentOf firstRow table numberOf codeOf plainCodeOf
+lost = refl
+
+pub found : after stuck (sending 255 single) .settings (value 1 0x3A) ≡ 0x05
+unfolding inOrder after frameDone frameOf answerTo takenAfter takenBy readOf contentOf firstRow table numberOf codeOf plainCodeOf
+found = refl
+
+single-legal : isLegal A (line 1 0x3A 0x05) ≡ true
+unfolding isLegal rowJudged firstRow table
+single-legal = refl
+
+pub too-few : SendingPromise 254 → ⊥
+too-few promise =
+    let held = promise .holds A zeros (0x21 ∷ 0x01 ∷ 0x3A ∷ 0xFF ∷ []) single [] (omega arith, (omega arith, (omega arith, (omega arith, tt)))) (single-legal, tt) (tt, tt) .full .0 in
+    let z : _≡_ {A = ℕ} 0 5 = sym lost ∙ held in
+    omega (arith, z)

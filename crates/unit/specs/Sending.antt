@@ -1,0 +1,39 @@
+-- Demand 3: what is sent, and which settings are on a sheet.
+use Prim.Native.Nat.{ℕ, _<_}
+use mathlib.Core.Path.{_≡_}
+use mathlib.Core.Bool.{false}
+use mathlib.Core.List.{List, [], _∷_, _++_}
+use lib.ListN.{take, replicate}
+use Rattle.sheet.specs.Line.{sameCell}
+use Rattle.sheet.specs.Run.{framesOf}
+use Rattle.sheet.specs.declared.line.Line.{Line}
+use Rattle.unit.specs.Unit.{Cell, value}
+
+abbrev pub Each : {A : Type 0} → (A → Type 0) → List A → Type 0
+Each P [] = Unit {0}
+Each P (x ∷ xs) = P x × Each P xs
+
+abbrev pub Bytes : List ℕ → Type 0
+Bytes bs = Each (λ (b : ℕ). b < 256) bs
+
+-- "each setting on the sheet": a line's zone and row
+abbrev pub cellOf : Line → Cell
+cellOf l = value (l .zone) (l .command)
+
+-- "every other setting": a cell of no line
+abbrev pub NotOn : List Line → Cell → Type 0
+NotOn ls x = Each (λ (l : Line). cellOf l ≡ x → ⊥) ls
+
+-- no two lines have the same zone and row
+abbrev pub Apart : List Line → Type 0
+Apart [] = Unit {0}
+Apart (l ∷ ls) = Each (λ (k : Line). sameCell l k ≡ false) ls × Apart ls
+
+-- zeros, then the lines' frames; document 01's run has 256
+abbrev pub sending : ℕ → List Line → List ℕ
+sending zeros ls = replicate zeros 0 ++ framesOf ls
+
+-- "any number of times, each sending cut after any byte, then once in full": a cut says after how many bytes; none and all included
+abbrev pub sendings : List ℕ → List ℕ → List ℕ
+sendings [] run = run
+sendings (cut ∷ cuts) run = take cut run ++ sendings cuts run

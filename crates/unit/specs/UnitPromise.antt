@@ -1,0 +1,71 @@
+-- Promise: document 01, 'The unit': what each frame leaves true of a unit at legal settings, and how the library reads its answers.
+use Prim.Native.Nat.{ℕ}
+use mathlib.Core.Path.{_≡_}
+use mathlib.Core.Bool.{true}
+use mathlib.Core.List.{List, [], _∷_, _++_}
+use mathlib.Core.Logic.{_⊎_}
+use Rattle.frame.specs.Frame.{frameOf}
+use Rattle.frame.specs.Reader.{answerTo, takenBy}
+use Rattle.frame.specs.declared.reader.ByteAnswer.the-variants.{Frame}
+use Rattle.frame.specs.declared.direction.Direction.the-variants.{Command, Answer}
+use Rattle.row.specs.Table.{rowOf}
+use Rattle.row.specs.declared.profile.Profile.{Profile}
+use Rattle.message.specs.Judge.{rowIn}
+use Rattle.message.specs.Content.{contentOf}
+use Rattle.message.specs.Message.{fromReading, frameRead}
+use Rattle.message.specs.declared.read.Said.{Said}
+use Rattle.message.specs.declared.read.Message.the-variants as message
+use Rattle.message.specs.declared.read.Reading.the-variants as reading
+use Rattle.message.specs.declared.read.FrameReading.the-variants as frame
+use Rattle.sheet.specs.Line.{isLegal}
+use Rattle.sheet.specs.Run.{lineFrame}
+use Rattle.sheet.specs.declared.line.Line.{Line}
+use Rattle.unit.specs.Unit.{Cell, value, input, current, Settings, put, Unit, Done, shown, refusalCode, zoneIn, commandIn, heard, frameDone, after, replies}
+use Rattle.unit.specs.Legal.{Legal}
+use Rattle.unit.specs.Sending.{Bytes, cellOf}
+
+-- the answer to a command: its data show a cell as it is after the command, the row's in that zone or an input of S 0F, and the library
+-- reads it as the status of that zone and command
+pub record Told (profile : Profile) (c : Said) (d : Done) : Type 0 where
+  pub cell : Cell
+  pub which : (cell ≡ value (c .zone) (c .command)) ⊎ ((i : ℕ) × (cell ≡ input i))
+  pub shows : d .answer ≡ frameOf Answer (c .zone) (c .command) 0x00 (shown cell (d .settings cell))
+  pub status : frameRead profile Answer (d .answer)
+      ≡ frame.Message (message.Status (record {
+        zone = c .zone;
+        command = c .command;
+        content = contentOf Answer (rowIn (rowOf profile (c .command))) (shown cell (d .settings cell));
+      }))
+
+-- the answer to a refused frame: the number is one of the four, and the library reads the answer as denied
+pub record Denied (profile : Profile) (bytes : List ℕ) (n : ℕ) (d : Done) : Type 0 where
+  pub number : (n ≡ 1) ⊎ (n ≡ 2) ⊎ (n ≡ 3) ⊎ (n ≡ 4)
+  pub denial : frameRead profile Answer (d .answer)
+      ≡ frame.Message (message.Denied (record { zone = zoneIn bytes; command = commandIn bytes; answer = refusalCode n }))
+
+pub record DonePromise (profile : Profile) (s : Settings) (bytes : List ℕ) : Type 0 where
+  -- legal settings stay legal
+  pub legal : Legal profile s → Legal profile (frameDone profile s bytes .settings)
+  -- "a current input, which nothing here changes"
+  pub now : frameDone profile s bytes .settings current ≡ s current
+  -- "A refused frame changes nothing"
+  pub kept : (n : ℕ) → heard profile bytes ≡ reading.Refused n → frameDone profile s bytes .settings ≡ s
+  pub denied : (n : ℕ) → heard profile bytes ≡ reading.Refused n → Denied profile bytes n (frameDone profile s bytes)
+  -- "the answer holds the row's value after it"
+  pub told : Legal profile s → (c : Said) → heard profile bytes ≡ reading.Message (message.Command c) → Told profile c (frameDone profile s bytes)
+
+-- a legal line's frame puts its value in its own cell and touches nothing else, whatever the cell held, and is answered with that value
+pub record LinePromise (profile : Profile) (s : Settings) (l : Line) : Type 0 where
+  pub sets : isLegal profile l ≡ true → frameDone profile s (lineFrame l) .settings ≡ put s (cellOf l) (l .value)
+  pub answers : isLegal profile l ≡ true → frameDone profile s (lineFrame l) .answer ≡ frameOf Answer (l .zone) (l .command) 0x00 (l .value ∷ [])
+
+-- of any bytes sent: the settings stay legal, the current input stays, and the answers are bytes
+pub record UnitPromise (u : Unit) (sent : List ℕ) : Type 0 where
+  pub legal : Legal (u .profile) (u .settings) → Legal (u .profile) (after u sent .settings)
+  pub now : after u sent .settings current ≡ u .settings current
+  pub answers : Legal (u .profile) (u .settings) → Bytes (u .taken) → Bytes sent → Bytes (replies u sent)
+
+-- a frame that a unit's reader completes is one whole frame, and the unit hears in it what the library reads in it
+pub record HeardPromise (profile : Profile) (before : List ℕ) (b n : ℕ) : Type 0 where
+  pub same : answerTo Command (takenBy Command [] before) b ≡ Frame n
+      → frameRead profile Command (takenBy Command [] before ++ b ∷ []) ≡ fromReading (heard profile (takenBy Command [] before ++ b ∷ []))
