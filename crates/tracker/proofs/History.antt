@@ -28,7 +28,7 @@ use Rattle.tracker.specs.declared.kept.Kept.the-variants.{Value, Unknown
 use Rattle.tracker.proofs.Feeds.{settle, after-status, feed-promise}
 
 -- a tracker of a profile with all of its cells
-abbrev Fit : Profile → Tracker → Type 0
+abbrev pub Fit : Profile → Tracker → Type 0
 Fit profile t = (t .profile ≡ profile) × Whole t
 
 fit-put : (profile : Profile) (t : Tracker) (k : Cell) (b : ℕ) → Fit profile t → Fit profile (put t k b)
@@ -38,12 +38,12 @@ fit-put profile t (cell.At i) b f = (f .0, (length-set (t .states) i knownState 
 abbrev next : Tracker → Brought → Tracker
 next t a = after t (a .zone) (a .command) (a .answer) (a .body)
 
-fit-next : (profile : Profile) (t : Tracker) (a : Brought) → Fit profile t → Fit profile (next t a)
+pub fit-next : (profile : Profile) (t : Tracker) (a : Brought) → Fit profile t → Fit profile (next t a)
 fit-next profile t a f =
     settle t (a .zone) (a .command) (a .answer) (a .body) (Fit profile) f
     (λ s e. subst (Fit profile) (sym (after-status t (a .zone) (a .command) (a .answer) (a .body) s e)) (fit-put profile t (cellOf (t .profile) (a .zone) (a .command)) (getD (a .body) 0 0) f))
 
-fit-all : (profile : Profile) (t : Tracker) (fs : List Brought) → Fit profile t → Fit profile (fedAll t fs)
+pub fit-all : (profile : Profile) (t : Tracker) (fs : List Brought) → Fit profile t → Fit profile (fedAll t fs)
 unfolding fedAll
 fit-all profile t [] f = f
 fit-all profile t (a ∷ fs) f = fit-all profile (next t a) fs (fit-next profile t a f)

@@ -39,7 +39,7 @@ use Rattle.unit.proofs.Houses.{well}
 use Rattle.unit.proofs.Acts.{either, bit-small, paired-form, rowFor, Accepted, accepted, done-refused, done-acted, made-legal, frame-legal, frame-now}
 
 -- an answer's frame reads as its fields do
-answer-reads : (profile : Profile) (zone command ac : ℕ) (body : List ℕ)
+pub answer-reads : (profile : Profile) (zone command ac : ℕ) (body : List ℕ)
     → frameRead profile Answer (frameOf Answer zone command ac body) ≡ fromReading (readOf profile Answer zone command ac body)
 answer-reads profile zone command ac body =
     let b = frame-promise .brought Answer zone command ac body in
@@ -47,7 +47,7 @@ answer-reads profile zone command ac body =
     ∙ ap (λ (xs : List ℕ). fromReading (readOf profile Answer zone command ac xs)) (b .load)
 
 -- a refusal is answered with a code that denies
-denied-reads : (profile : Profile) (zone command n : ℕ)
+pub denied-reads : (profile : Profile) (zone command n : ℕ)
     → readOf profile Answer zone command (refusalCode n) [] ≡ reading.Message (message.Denied (record { zone = zone; command = command; answer = refusalCode n }))
 unfolding readOf
 denied-reads profile zone command n =
@@ -120,13 +120,20 @@ module _ (profile : Profile) (s : Settings) (l : Legal profile s) (z k : ℕ) (d
   unfolding Shows
   data-legal = rw held (shows c (a .form) .0)
 
-  told-said : Told profile (said profile Command z k d) (acted profile s (said profile Command z k d))
+  -- the answer's data read as a status, and which cell they show
+  pub reads-said : readOf profile Answer z k 0 (shown (x c) (later (x c))) ≡ reading.Message (message.Status (said profile Answer z k (shown (x c) (later (x c)))))
+  reads-said = status-reads (shown (x c) (later (x c))) data-legal
+
+  pub which-cell : (x c ≡ value z k) ⊎ ((i : ℕ) × (x c ≡ input i))
   unfolding Shows
+  which-cell = shows c (a .form) .1
+
+  told-said : Told profile (said profile Command z k d) (acted profile s (said profile Command z k d))
   told-said = record {
     cell = x c;
-    which = shows c (a .form) .1;
+    which = which-cell;
     shows = refl;
-    status = answer-reads profile z k 0x00 (shown (x c) (later (x c))) ∙ ap fromReading (status-reads (shown (x c) (later (x c))) data-legal);
+    status = answer-reads profile z k 0x00 (shown (x c) (later (x c))) ∙ ap fromReading reads-said;
   }
 
   -- and they are bytes

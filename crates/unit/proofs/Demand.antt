@@ -27,12 +27,12 @@ repeated-last (x ∷ earlier) k l e =
     let (none, other) = repeated-last earlier k l rest in
     (rw (first, none), other)
 
-record Fit (profile : Profile) (earlier ls : List Line) : Type 0 where
-  legal : Each (λ (l : Line). isLegal profile l ≡ true) ls
+pub record Fit (profile : Profile) (earlier ls : List Line) : Type 0 where
+  pub legal : Each (λ (l : Line). isLegal profile l ≡ true) ls
   new : Each (λ (l : Line). isRepeated earlier l ≡ false) ls
-  apart : Apart ls
+  pub apart : Apart ls
 
-fit : (profile : Profile) (earlier ls : List Line) → AllSound profile earlier ls → Fit profile earlier ls
+pub fit : (profile : Profile) (earlier ls : List Line) → AllSound profile earlier ls → Fit profile earlier ls
 fit profile earlier [] s = record { legal = tt; new = tt; apart = tt }
 fit profile earlier (k ∷ ls) s =
     let rest = fit profile (earlier ++ k ∷ []) ls (s .1) in

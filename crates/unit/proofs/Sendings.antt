@@ -23,7 +23,7 @@ use Rattle.unit.proofs.Sets.{line-promise}
 use Rattle.unit.proofs.Flush.{Within, byte-within, zero-nearer, opened, bytes-within, quiet}
 use Rattle.unit.proofs.Moments.{Always, always-last, always-append, always-take, after-append}
 
-near-more : (j k : ℕ) (taken : List ℕ) → j ≤ k → Within Command j taken → Within Command k taken
+pub near-more : (j k : ℕ) (taken : List ℕ) → j ≤ k → Within Command j taken → Within Command k taken
 near-more j k taken h w some = omega (arith, w some)
 
 -- a byte that is not 0D only moves the reader
@@ -31,14 +31,14 @@ settings-quiet : (u : Unit) (b : ℕ) → (b ≡ ends → ⊥) → takes u b .se
 settings-quiet u b other = ap (λ (d : Done). d .settings) (quiet u b other)
 
 module _ (profile : Profile) (start want : Settings) where
-  abbrev Between : Settings → Type 0
+  abbrev pub Between : Settings → Type 0
   Between s = (x : Cell) → (s x ≡ start x) ⊎ (s x ≡ want x)
 
   -- a unit whose settings lie between the start and what is wanted
-  record Good (u : Unit) : Type 0 where
-    family : u .profile ≡ profile
-    near : Within Command 256 (u .taken)
-    between : Between (u .settings)
+  pub record Good (u : Unit) : Type 0 where
+    pub family : u .profile ≡ profile
+    pub near : Within Command 256 (u .taken)
+    pub between : Between (u .settings)
 
   good-quiet : (u : Unit) (b : ℕ) → b < 256 → (b ≡ ends → ⊥) → Good u → Good (takes u b)
   good-quiet u b h other g = record {
@@ -62,7 +62,7 @@ module _ (profile : Profile) (start want : Settings) where
       record { always = (g, rest .always); near = rest .near }
 
   -- a line that is legal, and wanted
-  abbrev Wanted : Line → Type 0
+  abbrev pub Wanted : Line → Type 0
   Wanted l = (isLegal profile l ≡ true) × (want (cellOf l) ≡ l .value)
 
   put-between : (l : Line) (s : Settings) → want (cellOf l) ≡ l .value → Between s → Between (put s (cellOf l) (l .value))
@@ -169,7 +169,7 @@ module _ (profile : Profile) (start want : Settings) where
       frames-sent : Framed (after u (replicate zeros 0)) ls
       frames-sent = framed ls w (after u (replicate zeros 0)) (always-last Good u (replicate zeros 0) (zeros-sent .always)) (zeros-sent .near)
 
-      sent-good : Always Good u (sending zeros ls)
+      pub sent-good : Always Good u (sending zeros ls)
       sent-good = always-append Good u (replicate zeros 0) (framesOf ls) (zeros-sent .always) (frames-sent .always)
 
       sent-all : Each (Reached (after u (sending zeros ls))) ls
@@ -191,7 +191,7 @@ module _ (profile : Profile) (start want : Settings) where
         (all-full cuts (after u (take cut (sending zeros ls))) (always-last Good u (take cut (sending zeros ls)) part))
 
 -- what lines make of settings
-abbrev wanted : List Line → Settings → Settings
+abbrev pub wanted : List Line → Settings → Settings
 wanted [] s = s
 wanted (l ∷ ls) s = put (wanted ls s) (cellOf l) (l .value)
 
@@ -220,7 +220,7 @@ module _ (zeros : ℕ) (enough : 255 ≤ zeros) (profile : Profile) (s : Setting
   abbrev sent : List ℕ
   sent = sendings cuts (sending zeros ls)
 
-  start-good : Good profile s want u
+  pub start-good : Good profile s want u
   start-good = record {
     family = refl;
     near = bytes-within Command [] before bytes (λ some. absurd (omega arith));
@@ -230,7 +230,7 @@ module _ (zeros : ℕ) (enough : 255 ≤ zeros) (profile : Profile) (s : Setting
   own : Each (λ (l : Line). want (cellOf l) ≡ l .value) ls
   own = wanted-own ls s apart
 
-  lines : Each (Wanted profile s want) ls
+  pub lines : Each (Wanted profile s want) ls
   lines = each-zip (λ l. isLegal profile l ≡ true) (λ l. want (cellOf l) ≡ l .value) (Wanted profile s want) ls (λ l e f. (e, f)) legal own
 
   moment : (n : ℕ) → Good profile s want (after u (take n sent))

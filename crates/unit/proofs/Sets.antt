@@ -88,7 +88,7 @@ module _ (profile : Profile) (l : Line) (legal : isLegal profile l ≡ true) whe
   judged-so = judge-legal profile Command (l .zone) (l .command) (l .value ∷ []) row (w .judged) ∙ rw (w .setting)
 
   -- the frame is read as the command that sets the value
-  reads : readOf profile Command (l .zone) (l .command) 0 (l .value ∷ []) ≡ reading.Message (message.Command (record { zone = l .zone; command = l .command; content = says }))
+  pub reads : readOf profile Command (l .zone) (l .command) 0 (l .value ∷ []) ≡ reading.Message (message.Command (record { zone = l .zone; command = l .command; content = says }))
   unfolding readOf
   reads =
       message-said profile Command (l .zone) (l .command) (l .value ∷ []) message.Command _

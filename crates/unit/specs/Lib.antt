@@ -8,4 +8,5 @@ pub mod UnitPromise
 pub mod UnitTablePromise
 pub mod Demand3
 pub mod SendingPromise
+pub mod TruthPromise
 pub mod StoppedPromise

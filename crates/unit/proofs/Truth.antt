@@ -1,0 +1,255 @@
+-- What a tracker knows from a unit's answers is true of the unit.
+use mathlib.Core.Path.{_≡_, refl, ap, sym, _∙_, subst}
+use mathlib.Core.Bool.{Bool, true, false, cond, _&&_}
+use mathlib.Core.List.{List, [], _∷_, _++_, append-assoc, append-nil}
+use mathlib.Core.Logic.{_⊎_, inl, inr}
+use Prim.Native.Nat.{ℕ}
+use native.Mathlib.Omega.{arith}
+use borrow.Author.Tests.{ne-eqb, eqb-true, eqb-false, le-ltb, ltb-true, ltb-false}
+use lib.Dec.{eqb, ltb}
+use lib.ListN.{length}
+use Rattle.frame.specs.Frame.{frameOf}
+use Rattle.frame.specs.Reader.{answers, takenBy}
+use Rattle.frame.specs.Capture.{eventsTold, eventsFrom}
+use Rattle.frame.specs.Fields.{dataIn}
+use Rattle.frame.specs.declared.direction.Direction.the-variants.{Command, Answer}
+use Rattle.row.specs.declared.profile.Profile.{Profile}
+use Rattle.message.specs.Content.{contentOf}
+use Rattle.message.specs.Message.{said, readOf}
+use Rattle.message.specs.declared.content.Content.{Content}
+use Rattle.message.specs.declared.read.Said.{Said}
+use Rattle.message.specs.declared.read.Message.the-variants as message
+use Rattle.message.specs.declared.read.Reading.the-variants as reading
+use Rattle.sheet.specs.declared.line.Line.{Line}
+use Rattle.tracker.specs.Cell.{cellOf}
+use Rattle.tracker.specs.Kept.{fresh, keptAt, keptIn}
+use Rattle.tracker.specs.Feed as feed
+use Rattle.tracker.specs.Feed.{Brought, fedAll}
+use Rattle.tracker.specs.FeedPromise.{FeedPromise}
+use Rattle.tracker.specs.Sign.{signOff}
+use Rattle.tracker.specs.SignPromise.{AllHold}
+use Rattle.tracker.specs.Capture.{broughtAll, broughtBy}
+use Rattle.tracker.specs.declared.cell.Cell as tracked
+use Rattle.tracker.specs.declared.cell.Cell.the-variants as cell
+use Rattle.tracker.specs.declared.kept.Tracker.{Tracker}
+use Rattle.tracker.specs.declared.kept.Kept.the-variants as kept
+use Rattle.tracker.specs.declared.sign.Signed.the-variants.{Yes}
+use Rattle.tracker.proofs.Feeds.{feed-promise}
+use Rattle.tracker.proofs.History.{Fit, fit-all, fed-append, history-promise}
+use Rattle.tracker.proofs.Signs.{sign-promise}
+use Rattle.tracker.proofs.CaptureSigns.{capture-promise, short}
+use Rattle.unit.specs.House.{valueAfter}
+use Rattle.unit.specs.Unit.{Cell, value, input, Settings, isCell, put, Unit, about, shown, Done, nothing, refusalCode, refused, acted, zoneIn, commandIn, frameDone, done, takes, after, replies}
+use Rattle.unit.specs.Legal.{Legal}
+use Rattle.unit.specs.Sending as sending
+use Rattle.unit.specs.Sending.{Each}
+use Rattle.unit.specs.TruthPromise.{tracked as tracked-by, TruthPromise}
+use Rattle.unit.proofs.Acts.{either, rowFor, Accepted}
+use Rattle.unit.proofs.Answers.{denied-reads, reads-said, which-cell}
+use Rattle.unit.proofs.Cells.{cell-self}
+use Rattle.unit.proofs.Streams.{by-frame, unit-promise}
+use Rattle.unit.proofs.Frames.{brought-behind}
+
+-- answers that stand before others bring what they bring alone
+pub brought-none : broughtBy [] ≡ []
+unfolding broughtAll eventsFrom eventsTold answers takenBy
+brought-none = refl
+
+abbrev Splits : List ℕ → Type 0
+Splits bytes = (rest : List ℕ) → broughtBy (bytes ++ rest) ≡ broughtBy bytes ++ broughtBy rest
+
+splits-none : Splits []
+splits-none rest = ap (λ (xs : List Brought). xs ++ broughtBy rest) (sym brought-none)
+
+pub brought-one : (zone command ac : ℕ) (body : List ℕ) → broughtBy (frameOf Answer zone command ac body) ≡ record { zone = zone; command = command; answer = ac; body = body } ∷ []
+brought-one zone command ac body =
+    ap broughtBy (sym (append-nil (frameOf Answer zone command ac body))) ∙ brought-behind zone command ac body []
+    ∙ ap (λ (xs : List Brought). record { zone = zone; command = command; answer = ac; body = body } ∷ xs) brought-none
+
+splits-frame : (zone command ac : ℕ) (body : List ℕ) → Splits (frameOf Answer zone command ac body)
+splits-frame zone command ac body rest =
+    brought-behind zone command ac body rest ∙ ap (λ (xs : List Brought). xs ++ broughtBy rest) (sym (brought-one zone command ac body))
+
+done-splits : (u : Unit) (b : ℕ) → Splits (done u b .answer)
+done-splits u b =
+    let bytes = u .taken ++ b ∷ [] in
+    by-frame u b (λ (d : Done). Splits (d .answer)) splits-none
+    (either (u .profile) (u .settings) bytes (λ (d : Done). Splits (d .answer))
+    (λ n. splits-frame (zoneIn bytes) (commandIn bytes) (refusalCode n) [])
+    (λ a. splits-frame (zoneIn bytes) (commandIn bytes) 0x00 _))
+
+pub replies-append : (u : Unit) (bs cs : List ℕ) → replies u (bs ++ cs) ≡ replies u bs ++ replies (after u bs) cs
+unfolding replies after
+replies-append u [] cs = refl
+replies-append u (b ∷ bs) cs =
+    ap (λ (xs : List ℕ). done u b .answer ++ xs) (replies-append (takes u b) bs cs)
+    ∙ sym (append-assoc (done u b .answer) (replies (takes u b) bs) (replies (after (takes u b) bs) cs))
+
+pub brought-append : (u : Unit) (bs rest : List ℕ) → broughtBy (replies u bs ++ rest) ≡ broughtBy (replies u bs) ++ broughtBy rest
+unfolding replies
+brought-append u [] rest = splits-none rest
+brought-append u (b ∷ bs) rest =
+    ap broughtBy (append-assoc (done u b .answer) (replies (takes u b) bs) rest)
+    ∙ done-splits u b (replies (takes u b) bs ++ rest)
+    ∙ ap (λ (xs : List Brought). broughtBy (done u b .answer) ++ xs) (brought-append (takes u b) bs rest)
+    ∙ sym (append-assoc (broughtBy (done u b .answer)) (broughtBy (replies (takes u b) bs)) (broughtBy rest))
+    ∙ ap (λ (xs : List Brought). xs ++ broughtBy rest) (sym (done-splits u b (replies (takes u b) bs)))
+
+-- what is known is true of these settings
+abbrev True : Tracker → Settings → Type 0
+True t s = (zone command b : ℕ) → keptIn t zone command ≡ kept.Value b → s (value zone command) ≡ b
+
+value-same : (a b : ℕ) → kept.Value a ≡ kept.Value b → a ≡ b
+value-same a b e = cc
+
+one-same : (a b : ℕ) → _≡_ {A = List ℕ} (a ∷ []) (b ∷ []) → a ≡ b
+one-same a b e = cc
+
+two-not : (a b c : ℕ) → _≡_ {A = List ℕ} (a ∷ b ∷ []) (c ∷ []) → ⊥
+two-not a b c e = let n : _≡_ {A = ℕ} 2 1 = ap (λ (xs : List ℕ). length xs) e in omega arith
+
+no-cell-not : (b : ℕ) → kept.NoCell ≡ kept.Value b → ⊥
+no-cell-not b e = let z : _≡_ {A = ℕ} 0 1 = cc in omega arith
+
+-- an answer that shows one cell, which is its row's or an input's, and the settings in which that cell alone may differ
+module _ (profile : Profile) (t : Tracker) (fit : Fit profile t) (s : Settings) (true-before : True t s) (z k : ℕ) (x : Cell) (v : ℕ)
+    (which : (x ≡ value z k) ⊎ ((i : ℕ) × (x ≡ input i))) (said : Said)
+    (reads : readOf profile Answer z k 0x00 (shown x (put s x v x)) ≡ reading.Message (message.Status said)) where
+  abbrev next : Tracker
+  next = feed.after t z k 0x00 (shown x (put s x v x))
+
+  promise : FeedPromise t z k 0x00 (shown x (put s x v x))
+  promise = feed-promise t z k 0x00 (shown x (put s x v x))
+
+  -- another row or zone
+  other : (zone command : ℕ) → ((zone ≡ z) × (command ≡ k) → ⊥) → put s x v (value zone command) ≡ s (value zone command)
+  other zone command differ = go which
+    where
+      apart : eqb z zone && eqb k command ≡ false
+      apart = by-test (eqb z zone) (eqb k command) refl refl
+        where
+          by-test : (p q : Bool) → eqb z zone ≡ p → eqb k command ≡ q → p && q ≡ false
+          by-test true true e f = absurd (differ (sym (eqb-true z zone e), sym (eqb-true k command f)))
+          by-test true false e f = refl
+          by-test false q e f = refl
+
+      go : (x ≡ value z k) ⊎ ((i : ℕ) × (x ≡ input i)) → put s x v (value zone command) ≡ s (value zone command)
+      go (inl e) = ap (λ (y : Cell). cond (isCell y (value zone command)) v (s (value zone command))) e ∙ rw apart
+      go (inr e) = ap (λ (y : Cell). cond (isCell y (value zone command)) v (s (value zone command))) (e .1)
+
+  -- its own
+  own-known : (i : ℕ) → cellOf profile z k ≡ cell.At i → (b : ℕ) → keptIn next z k ≡ kept.Value b → put s x v (value z k) ≡ b
+  own-known i c b e =
+      let w = promise .known (fit .1) said (rw (fit .0) reads) i (rw (fit .0) c) in
+      go which (w .1 ∙ ap (λ (n : ℕ). n ∷ []) (value-same (w .0) b (sym (w .2) ∙ e)))
+    where
+      go : (x ≡ value z k) ⊎ ((i : ℕ) × (x ≡ input i)) → shown x (put s x v x) ≡ b ∷ [] → put s x v (value z k) ≡ b
+      go (inl f) h =
+          ap (λ (y : Cell). put s x v y) (sym f) ∙ one-same (put s x v x) b (ap (λ (y : Cell). shown y (put s x v x)) (sym f) ∙ h)
+      go (inr f) h = absurd (two-not (f .0) (put s x v x) b (ap (λ (y : Cell). shown y (put s x v x)) (sym (f .1)) ∙ h))
+
+  own : (b : ℕ) → keptIn next z k ≡ kept.Value b → put s x v (value z k) ≡ b
+  unfolding keptIn
+  own b e = go (cellOf profile z k) refl
+    where
+      go : (y : tracked.Cell) → cellOf profile z k ≡ y → put s x v (value z k) ≡ b
+      go (cell.At i) f = own-known i f b e
+      go cell.NoCell f =
+          let here : cellOf (t .profile) z k ≡ cell.NoCell = ap (λ (p : Profile). cellOf p z k) (fit .0) ∙ f in
+          let none : keptIn t z k ≡ kept.NoCell = rw here in
+          absurd (no-cell-not b (sym none ∙ sym (ap (λ (y : Tracker). keptIn y z k) (promise .left-out here)) ∙ e))
+
+  true-shown : True next (put s x v)
+  true-shown zone command b e = go (eqb zone z) (eqb command k) refl refl
+    where
+      differs : ((zone ≡ z) × (command ≡ k) → ⊥) → put s x v (value zone command) ≡ b
+      differs d = other zone command d ∙ true-before zone command b (sym (promise .others zone command d) ∙ e)
+
+      go : (p q : Bool) → eqb zone z ≡ p → eqb command k ≡ q → put s x v (value zone command) ≡ b
+      go true true f g =
+          let zones = eqb-true zone z f in
+          let commands = eqb-true command k g in
+          rw (zones, commands) (own b (ap (λ (y : ℕ). keptIn next y k) (sym zones) ∙ ap (λ (y : ℕ). keptIn next zone y) (sym commands) ∙ e))
+      go true false f g = differs (λ w. eqb-false command k g (w .1))
+      go false q f g = differs (λ w. eqb-false zone z f (w .0))
+
+-- a frame
+module _ (profile : Profile) (s : Settings) (legal : Legal profile s) (t : Tracker) (fit : Fit profile t) (true-before : True t s) (bytes : List ℕ) where
+  abbrev Heard : Done → Type 0
+  Heard d = True (fedAll t (broughtBy (d .answer))) (d .settings)
+
+  one-fed : (zone command ac : ℕ) (body : List ℕ) → fedAll t (broughtBy (frameOf Answer zone command ac body)) ≡ feed.after t zone command ac body
+  unfolding fedAll
+  one-fed zone command ac body = ap (fedAll t) (brought-one zone command ac body)
+
+  refused-true : (n : ℕ) → Heard (refused s (zoneIn bytes) (commandIn bytes) n)
+  refused-true n =
+      let z = zoneIn bytes in
+      let k = commandIn bytes in
+      let read = ap (λ (p : Profile). readOf p Answer z k (refusalCode n) []) (fit .0) ∙ denied-reads profile z k n in
+      subst (λ (y : Tracker). True y s) (sym (one-fed z k (refusalCode n) [] ∙ feed-promise t z k (refusalCode n) [] .denied _ read)) true-before
+
+  acted-true : Accepted profile (zoneIn bytes) (commandIn bytes) (dataIn Command bytes) → Heard (acted profile s (said profile Command (zoneIn bytes) (commandIn bytes) (dataIn Command bytes)))
+  acted-true a =
+      let z = zoneIn bytes in
+      let k = commandIn bytes in
+      let d = dataIn Command bytes in
+      let row = rowFor profile k in
+      let c = contentOf Command row d in
+      let x = about row s z k c in
+      let v = valueAfter row c (s x) in
+      subst (λ (y : Tracker). True y (put s x v)) (sym (one-fed z k 0x00 (shown x (put s x v x))))
+      (true-shown profile t fit s true-before z k x v (which-cell profile s legal z k d a) _ (reads-said profile s legal z k d a))
+
+  pub frame-true : Heard (frameDone profile s bytes)
+  frame-true = either profile s bytes Heard refused-true acted-true
+
+-- any bytes
+true-on : (u : Unit) (sent : List ℕ) → Legal (u .profile) (u .settings) → (t : Tracker) → Fit (u .profile) t → True t (u .settings)
+    → True (fedAll t (broughtBy (replies u sent))) (after u sent .settings)
+unfolding replies after fedAll
+true-on u [] legal t fit h = subst (λ (fs : List Brought). True (fedAll t fs) (u .settings)) (sym brought-none) h
+true-on u (b ∷ bs) legal t fit h =
+    let next = fedAll t (broughtBy (done u b .answer)) in
+    let step : True next (takes u b .settings) =
+        by-frame u b (λ (d : Done). True (fedAll t (broughtBy (d .answer))) (d .settings))
+        (subst (λ (fs : List Brought). True (fedAll t fs) (u .settings)) (sym brought-none) h)
+        (frame-true (u .profile) (u .settings) legal t fit h (u .taken ++ b ∷ [])) in
+    let rest = true-on (takes u b) bs (unit-promise u (b ∷ []) .legal legal) next (fit-all (u .profile) t (broughtBy (done u b .answer)) fit) step in
+    subst (λ (y : Tracker). True y (after (takes u b) bs .settings))
+    (sym (ap (fedAll t) (done-splits u b (replies (takes u b) bs)) ∙ fed-append t (broughtBy (done u b .answer)) (broughtBy (replies (takes u b) bs)))) rest
+
+fresh-true : (profile : Profile) (s : Settings) → True (fresh profile) s
+unfolding keptIn fedAll
+fresh-true profile s zone command b e = go (cellOf profile zone command) refl
+  where
+    unknown-not : kept.Unknown ≡ kept.Value b → ⊥
+    unknown-not f = let z : _≡_ {A = ℕ} 0 1 = cc in omega arith
+
+    go : (y : tracked.Cell) → cellOf profile zone command ≡ y → s (value zone command) ≡ b
+    go (cell.At i) f = absurd (unknown-not (sym (history-promise profile zone command i f [] .unknown tt) ∙ e))
+    go cell.NoCell f =
+        let none : keptIn (fresh profile) zone command ≡ kept.NoCell = rw f in
+        absurd (no-cell-not b (sym none ∙ e))
+
+pub known-true : (u : Unit) (sent : List ℕ) → Legal (u .profile) (u .settings) → True (tracked-by (u .profile) (replies u sent)) (after u sent .settings)
+known-true u sent legal = true-on u sent legal (fresh (u .profile)) (refl, (refl, refl)) (fresh-true (u .profile) (u .settings))
+
+held-by : (t : Tracker) (s : Settings) → True t s → (ls : List Line) → AllHold t ls → Each (λ (l : Line). s (sending.cellOf l) ≡ l .value) ls
+held-by t s h [] w = tt
+held-by t s h (l ∷ ls) w = (h (l .zone) (l .command) (l .value) (w .0), held-by t s h ls (w .1))
+
+pub truth-promise : (u : Unit) (sent : List ℕ) → TruthPromise u sent
+truth-promise u sent = record {
+  known = known-true u sent;
+  signed = signed;
+  captured = λ legal ls e.
+      let w = capture-promise (u .profile) ls (replies u sent) .only e in
+      signed legal ls (sym (short (u .profile) ls (replies u sent) (w .0)) ∙ e);
+}
+  where
+    signed : Legal (u .profile) (u .settings) → (ls : List Line) → signOff (tracked-by (u .profile) (replies u sent)) ls ≡ Yes
+        → Each (λ (l : Line). after u sent .settings (sending.cellOf l) ≡ l .value) ls
+    signed legal ls e =
+        held-by (tracked-by (u .profile) (replies u sent)) (after u sent .settings) (known-true u sent legal) ls
+        (sign-promise (tracked-by (u .profile) (replies u sent)) ls .only e .1)

@@ -1,0 +1,41 @@
+-- Promise: the incident shut out. Whatever bytes are sent to a unit at legal settings: where all its answers, as bytes, are read and fed
+-- to a tracker made new before, each value that the tracker knows is the unit's setting, at every moment. So a sheet that is signed
+-- off is a sheet that the unit holds now. And after the full sending of demand 3 the unit's answers sign the sheet off.
+use Prim.Native.Nat.{ℕ}
+use mathlib.Core.Path.{_≡_}
+use mathlib.Core.List.{List}
+use Rattle.row.specs.declared.profile.Profile.{Profile}
+use Rattle.sheet.specs.Check.{sheetVerdict}
+use Rattle.sheet.specs.Run.{runOf}
+use Rattle.sheet.specs.declared.line.Line.{Line}
+use Rattle.sheet.specs.declared.check.Verdict.the-variants as verdict
+use Rattle.tracker.specs.Kept.{fresh, keptIn}
+use Rattle.tracker.specs.Feed.{fedAll}
+use Rattle.tracker.specs.Sign.{signOff}
+use Rattle.tracker.specs.Capture.{broughtBy, captureSigned}
+use Rattle.tracker.specs.declared.kept.Tracker.{Tracker}
+use Rattle.tracker.specs.declared.kept.Kept.the-variants.{Value}
+use Rattle.tracker.specs.declared.sign.Signed.the-variants.{Yes}
+use Rattle.unit.specs.Unit.{value, Settings, Unit, Holds, after, replies}
+use Rattle.unit.specs.Legal.{Legal}
+use Rattle.unit.specs.Sending.{Each, Bytes, cellOf, sendings}
+use Rattle.unit.specs.Demand3.{stopped}
+
+-- the tracker that was made new, and fed what the frames among these bytes bring
+abbrev pub tracked : Profile → List ℕ → Tracker
+tracked profile answers = fedAll (fresh profile) (broughtBy answers)
+
+-- the unit after some bytes, and the tracker then
+pub record TruthPromise (u : Unit) (sent : List ℕ) : Type 0 where
+  pub known : Legal (u .profile) (u .settings) → (zone command b : ℕ) → keptIn (tracked (u .profile) (replies u sent)) zone command ≡ Value b
+      → Holds (after u sent) (value zone command) b
+  pub signed : Legal (u .profile) (u .settings) → (ls : List Line) → signOff (tracked (u .profile) (replies u sent)) ls ≡ Yes
+      → Each (λ (l : Line). Holds (after u sent) (cellOf l) (l .value)) ls
+  -- the same of the sign-off by a capture of all the answers
+  pub captured : Legal (u .profile) (u .settings) → (ls : List Line) → captureSigned (u .profile) ls (replies u sent) ≡ Yes
+      → Each (λ (l : Line). Holds (after u sent) (cellOf l) (l .value)) ls
+
+pub record SignedSending : Type 0 where
+  pub signs : (profile : Profile) (s : Settings) (before : List ℕ) (sheet : List Line) (cuts : List ℕ)
+      → Legal profile s → Bytes before → sheetVerdict profile sheet ≡ verdict.Accepted
+      → signOff (tracked profile (replies (stopped profile s before) (sendings cuts (runOf sheet)))) sheet ≡ Yes
