@@ -84,6 +84,27 @@ module _ (buf : List ℕ) (at : ℕ) (bytes : List ℕ) where
   pub stands : at + length bytes ≤ length buf → take (length bytes) (drop at (left verdict.Accepted buf at bytes)) ≡ bytes
   stands h = ap (λ (xs : List ℕ). take (length bytes) (drop at xs)) (fits h .1) ∙ placed-there buf at bytes h
 
+  -- bytes were written: then the sheet was accepted, and they all stand at the place
+  pub record Wrote (v : Verdict) (n : ℕ) : Type 0 where
+    pub accepted : v ≡ verdict.Accepted
+    pub there : take n (drop at (left v buf at bytes)) ≡ bytes
+
+  bytes-not : (n m i : ℕ) → Refused m i ≡ Bytes n → ⊥
+  bytes-not n m i e = let z : _≡_ {A = ℕ} 0 1 = cc in omega arith
+
+  bytes-same : (m n : ℕ) → Bytes m ≡ Bytes n → m ≡ n
+  bytes-same m n e = cc
+
+  pub wrote : (v : Verdict) (n : ℕ) → answered v buf at bytes ≡ Bytes n → Wrote v n
+  wrote verdict.Accepted n e = go either
+    where
+      go : (at + length bytes ≤ length buf) ⊎ ((answered verdict.Accepted buf at bytes ≡ Refused 9 0) × (left verdict.Accepted buf at bytes ≡ buf)) → Wrote verdict.Accepted n
+      go (inl w) =
+          let long : length bytes ≡ n = bytes-same (length bytes) n (sym (fits w .0) ∙ e) in
+          record { accepted = refl; there = ap (λ (k : ℕ). take k (drop at (left verdict.Accepted buf at bytes))) (sym long) ∙ stands w }
+      go (inr w) = absurd (bytes-not n 9 0 (sym (w .0) ∙ e))
+  wrote (verdict.Refused m i) n e = absurd (bytes-not n m i e)
+
   pub written-promise : (v : Verdict) → WrittenPromise v buf at bytes
   written-promise v = record {
     checks = λ n i e. rw e;

@@ -12,6 +12,7 @@ pub mod Stopped
 pub mod Acts
 pub mod Answers
 pub mod Streams
+pub mod Wrote
 pub mod Frames
 pub mod Truth
 pub mod Signs

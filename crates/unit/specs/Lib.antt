@@ -8,5 +8,6 @@ pub mod UnitPromise
 pub mod UnitTablePromise
 pub mod Demand3
 pub mod SendingPromise
+pub mod WrittenDemand3
 pub mod TruthPromise
 pub mod StoppedPromise

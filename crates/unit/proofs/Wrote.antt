@@ -1,0 +1,36 @@
+-- Demand 3 of the bytes that the library wrote.
+use mathlib.Core.Path.{_≡_, ap, sym, _∙_, subst}
+use mathlib.Core.List.{List}
+use Prim.Native.Nat.{ℕ}
+use Rattle.row.specs.Profile.{profileOf}
+use Rattle.row.specs.declared.profile.Profile.{Profile}
+use Rattle.row.specs.declared.profile.Named.{Named}
+use Rattle.row.specs.declared.profile.Named.the-variants as named
+use Rattle.sheet.specs.Check.{sheetVerdict}
+use Rattle.sheet.specs.File.{records, linesIn, fileVerdict}
+use Rattle.sheet.specs.Run.{runOf}
+use Rattle.sheet.specs.Plain.{fileRunAnswered, fileRunLeft}
+use Rattle.sheet.specs.declared.line.Line.{Line}
+use Rattle.sheet.specs.declared.check.Verdict.the-variants as verdict
+use Rattle.sheet.proofs.Trips.{accepted-marked}
+use Rattle.sheet.proofs.Writes.{wrote}
+use Rattle.unit.specs.Sending.{sendings}
+use Rattle.unit.specs.Demand3.{stopped, Promised}
+use Rattle.unit.specs.WrittenDemand3.{placedBytes, WrittenDemand3}
+use Rattle.unit.proofs.Demand.{demand-3}
+
+pub written-demand-3 : WrittenDemand3
+written-demand-3 = record {
+  run = λ profile s before sheet cuts buf at n legal bytes e.
+      let w = wrote buf at (runOf sheet) (sheetVerdict profile sheet) n e in
+      subst (λ (run : List ℕ). Promised (stopped profile s before) sheet (sendings cuts run)) (sym (w .there))
+      (demand-3 .holds profile s before sheet cuts legal bytes (w .accepted));
+  file = λ letter profile s before file cuts buf at n named legal bytes e.
+      let sheet = linesIn (records file) in
+      let answered = ap (λ (family : Named). fileRunAnswered family file buf at) (sym named) ∙ e in
+      let w = wrote buf at (runOf sheet) (fileVerdict profile file) n answered in
+      let accepted : sheetVerdict profile sheet ≡ verdict.Accepted = accepted-marked profile file (w .accepted) .2 in
+      let there = ap (λ (family : Named). placedBytes (fileRunLeft family file buf at) at n) named ∙ w .there in
+      subst (λ (run : List ℕ). Promised (stopped profile s before) sheet (sendings cuts run)) (sym there)
+      (demand-3 .holds profile s before sheet cuts legal bytes accepted);
+}
