@@ -5,6 +5,7 @@ pub mod Feeds
 pub mod History
 pub mod Signs
 pub mod Captures
+pub mod Frames
 pub mod CaptureSigns
 pub mod Refusals
 pub mod OneAnswer

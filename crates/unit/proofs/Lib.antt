@@ -13,7 +13,6 @@ pub mod Acts
 pub mod Answers
 pub mod Streams
 pub mod Wrote
-pub mod Frames
 pub mod Truth
 pub mod Signs
 pub mod Witness

@@ -7,7 +7,7 @@ use Prim.Native.Nat.{ℕ, zero, suc, _+_, _≤_}
 use native.Mathlib.Omega.{arith}
 use lib.ListN.{take, replicate}
 use Rattle.frame.specs.Frame.{opens, ends, frameOf}
-use Rattle.frame.specs.Reader.{answerTo, takenAfter, takenBy}
+use Rattle.frame.specs.Reader.{answerTo, takenAfter}
 use Rattle.frame.specs.declared.direction.Direction.the-variants.{Command, Answer}
 use Rattle.row.specs.declared.profile.Profile.{Profile}
 use Rattle.sheet.specs.Line.{isLegal}
@@ -29,6 +29,7 @@ use Rattle.tracker.specs.declared.kept.Tracker.{Tracker}
 use Rattle.tracker.specs.declared.cell.Cell.the-variants as cell
 use Rattle.tracker.specs.declared.kept.Kept.the-variants.{Value}
 use Rattle.tracker.proofs.Cells.{legal-cell}
+use Rattle.tracker.proofs.Frames.{brought-none, brought-one}
 use Rattle.tracker.proofs.History.{history-promise}
 use Rattle.tracker.proofs.Signs.{its-verdict, sign-promise}
 use Rattle.sheet.proofs.Sheets.{sheet-promise}
@@ -42,7 +43,7 @@ use Rattle.unit.proofs.Moments.{always-last, always-take}
 use Rattle.unit.proofs.Sendings.{near-more, Good, Wanted, sent-good, wanted, start-good, lines}
 use Rattle.unit.proofs.Sets.{reads, line-promise}
 use Rattle.unit.proofs.Answers.{answer-reads, done-promise}
-use Rattle.unit.proofs.Truth.{brought-none, brought-one, replies-append, brought-append, known-true}
+use Rattle.unit.proofs.Truth.{replies-append, brought-append, known-true}
 use Rattle.unit.proofs.Demand.{fit, demand-3}
 
 -- the answer to a legal line's frame

@@ -1,34 +1,31 @@
 -- What a tracker knows from a unit's answers is true of the unit.
 use mathlib.Core.Path.{_≡_, refl, ap, sym, _∙_, subst}
 use mathlib.Core.Bool.{Bool, true, false, cond, _&&_}
-use mathlib.Core.List.{List, [], _∷_, _++_, append-assoc, append-nil}
+use mathlib.Core.List.{List, [], _∷_, _++_, append-assoc}
 use mathlib.Core.Logic.{_⊎_, inl, inr}
 use Prim.Native.Nat.{ℕ}
 use native.Mathlib.Omega.{arith}
-use borrow.Author.Tests.{ne-eqb, eqb-true, eqb-false, le-ltb, ltb-true, ltb-false}
-use lib.Dec.{eqb, ltb}
+use borrow.Author.Tests.{eqb-true, eqb-false}
+use lib.Dec.{eqb}
 use lib.ListN.{length}
 use Rattle.frame.specs.Frame.{frameOf}
-use Rattle.frame.specs.Reader.{answers, takenBy}
-use Rattle.frame.specs.Capture.{eventsTold, eventsFrom}
 use Rattle.frame.specs.Fields.{dataIn}
 use Rattle.frame.specs.declared.direction.Direction.the-variants.{Command, Answer}
 use Rattle.row.specs.declared.profile.Profile.{Profile}
 use Rattle.message.specs.Content.{contentOf}
 use Rattle.message.specs.Message.{said, readOf}
-use Rattle.message.specs.declared.content.Content.{Content}
 use Rattle.message.specs.declared.read.Said.{Said}
 use Rattle.message.specs.declared.read.Message.the-variants as message
 use Rattle.message.specs.declared.read.Reading.the-variants as reading
 use Rattle.sheet.specs.declared.line.Line.{Line}
 use Rattle.tracker.specs.Cell.{cellOf}
-use Rattle.tracker.specs.Kept.{fresh, keptAt, keptIn}
+use Rattle.tracker.specs.Kept.{fresh, keptIn}
 use Rattle.tracker.specs.Feed as feed
 use Rattle.tracker.specs.Feed.{Brought, fedAll}
 use Rattle.tracker.specs.FeedPromise.{FeedPromise}
 use Rattle.tracker.specs.Sign.{signOff}
 use Rattle.tracker.specs.SignPromise.{AllHold}
-use Rattle.tracker.specs.Capture.{broughtAll, broughtBy}
+use Rattle.tracker.specs.Capture.{broughtBy}
 use Rattle.tracker.specs.declared.cell.Cell as tracked
 use Rattle.tracker.specs.declared.cell.Cell.the-variants as cell
 use Rattle.tracker.specs.declared.kept.Tracker.{Tracker}
@@ -39,32 +36,22 @@ use Rattle.tracker.proofs.History.{Fit, fit-all, fed-append, history-promise}
 use Rattle.tracker.proofs.Signs.{sign-promise}
 use Rattle.tracker.proofs.CaptureSigns.{capture-promise, short}
 use Rattle.unit.specs.House.{valueAfter}
-use Rattle.unit.specs.Unit.{Cell, value, input, Settings, isCell, put, Unit, about, shown, Done, nothing, refusalCode, refused, acted, zoneIn, commandIn, frameDone, done, takes, after, replies}
+use Rattle.unit.specs.Unit.{Cell, value, input, Settings, isCell, put, Unit, about, shown, Done, refusalCode, refused, acted, zoneIn, commandIn, frameDone, done, takes, after, replies}
 use Rattle.unit.specs.Legal.{Legal}
 use Rattle.unit.specs.Sending as sending
 use Rattle.unit.specs.Sending.{Each}
 use Rattle.unit.specs.TruthPromise.{tracked as tracked-by, TruthPromise}
 use Rattle.unit.proofs.Acts.{either, rowFor, Accepted}
 use Rattle.unit.proofs.Answers.{denied-reads, reads-said, which-cell}
-use Rattle.unit.proofs.Cells.{cell-self}
 use Rattle.unit.proofs.Streams.{by-frame, unit-promise}
-use Rattle.unit.proofs.Frames.{brought-behind}
+use Rattle.tracker.proofs.Frames.{brought-none, brought-one, brought-behind}
 
 -- answers that stand before others bring what they bring alone
-pub brought-none : broughtBy [] ≡ []
-unfolding broughtAll eventsFrom eventsTold answers takenBy
-brought-none = refl
-
 abbrev Splits : List ℕ → Type 0
 Splits bytes = (rest : List ℕ) → broughtBy (bytes ++ rest) ≡ broughtBy bytes ++ broughtBy rest
 
 splits-none : Splits []
 splits-none rest = ap (λ (xs : List Brought). xs ++ broughtBy rest) (sym brought-none)
-
-pub brought-one : (zone command ac : ℕ) (body : List ℕ) → broughtBy (frameOf Answer zone command ac body) ≡ record { zone = zone; command = command; answer = ac; body = body } ∷ []
-brought-one zone command ac body =
-    ap broughtBy (sym (append-nil (frameOf Answer zone command ac body))) ∙ brought-behind zone command ac body []
-    ∙ ap (λ (xs : List Brought). record { zone = zone; command = command; answer = ac; body = body } ∷ xs) brought-none
 
 splits-frame : (zone command ac : ℕ) (body : List ℕ) → Splits (frameOf Answer zone command ac body)
 splits-frame zone command ac body rest =

@@ -2,15 +2,11 @@
 use mathlib.Core.Path.{_≡_, ap, sym, _∙_, subst}
 use mathlib.Core.List.{List}
 use Prim.Native.Nat.{ℕ}
-use Rattle.row.specs.Profile.{profileOf}
-use Rattle.row.specs.declared.profile.Profile.{Profile}
 use Rattle.row.specs.declared.profile.Named.{Named}
-use Rattle.row.specs.declared.profile.Named.the-variants as named
 use Rattle.sheet.specs.Check.{sheetVerdict}
 use Rattle.sheet.specs.File.{records, linesIn, fileVerdict}
 use Rattle.sheet.specs.Run.{runOf}
 use Rattle.sheet.specs.Plain.{fileRunAnswered, fileRunLeft}
-use Rattle.sheet.specs.declared.line.Line.{Line}
 use Rattle.sheet.specs.declared.check.Verdict.the-variants as verdict
 use Rattle.sheet.proofs.Trips.{accepted-marked}
 use Rattle.sheet.proofs.Writes.{wrote}

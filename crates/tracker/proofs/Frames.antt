@@ -1,13 +1,13 @@
 -- Answers one behind another, as bytes: each frame brings its own fields and data.
 use mathlib.Core.Path.{_≡_, refl, ap, sym, _∙_}
 use mathlib.Core.Bool.{Bool, true, false}
-use mathlib.Core.List.{List, [], _∷_, _++_, append-assoc}
+use mathlib.Core.List.{List, [], _∷_, _++_, append-assoc, append-nil}
 use Prim.Native.Nat.{ℕ, zero, suc, _+_}
 use native.Mathlib.Nat.{zero-add, add-zero}
 use native.Mathlib.Omega.{arith}
 use borrow.Author.Tests.{le-leb, lt-leb, leb-true, leb-false}
 use lib.Dec.{leb}
-use lib.ListN.{length, take, drop, replicate, length-append}
+use lib.ListN.{length, replicate, length-append}
 use lib.Seq.{take-append-seam, drop-append-add}
 use Rattle.frame.specs.Frame.{frameLength, frameOf}
 use Rattle.frame.specs.Reader.{answerTo, takenAfter, answers, takenBy}
@@ -18,11 +18,10 @@ use Rattle.frame.specs.declared.direction.Direction.the-variants.{Answer}
 use Rattle.frame.specs.declared.reader.ByteAnswer.{ByteAnswer}
 use Rattle.frame.specs.declared.reader.ByteAnswer.the-variants.{Waiting, Noise, Frame, Broken}
 use Rattle.frame.specs.declared.capture.Kind.the-variants as kind
-use Rattle.frame.specs.declared.capture.Event.{Event}
 use Rattle.frame.proofs.Header.{frame-length}
 use Rattle.frame.proofs.Back.{frame-promise}
 use Rattle.tracker.specs.Feed.{Brought}
-use Rattle.tracker.specs.Capture.{broughtIn, broughtAs, broughtAll, broughtBy}
+use Rattle.tracker.specs.Capture.{broughtIn, broughtAll, broughtBy}
 
 -- a reader goes on behind what it was fed
 answers-behind : (dir : Direction) (taken xs ys : List ℕ) → answers dir taken (xs ++ ys) ≡ answers dir taken xs ++ answers dir (takenBy dir taken xs) ys
@@ -121,3 +120,13 @@ module _ (zone command ac : ℕ) (body rest : List ℕ) where
       ∙ ap (λ (bs : List ℕ). broughtIn bs ++ broughtAll (frame ++ rest) (eventsTold (length frame + 0) later over)) bytes-here
       ∙ ap (λ (xs : List Brought). xs ++ broughtAll (frame ++ rest) (eventsTold (length frame + 0) later over)) brought-here
       ∙ ap (λ (xs : List Brought). brings ∷ xs) (shift frame rest later over 0)
+
+-- no bytes bring nothing, and one frame brings one answer
+pub brought-none : broughtBy [] ≡ []
+unfolding broughtAll eventsFrom eventsTold answers takenBy
+brought-none = refl
+
+pub brought-one : (zone command ac : ℕ) (body : List ℕ) → broughtBy (frameOf Answer zone command ac body) ≡ record { zone = zone; command = command; answer = ac; body = body } ∷ []
+brought-one zone command ac body =
+    ap broughtBy (sym (append-nil (frameOf Answer zone command ac body))) ∙ brought-behind zone command ac body []
+    ∙ ap (λ (xs : List Brought). record { zone = zone; command = command; answer = ac; body = body } ∷ xs) brought-none
