@@ -2,6 +2,8 @@
 use mathlib.Core.Path.{_≡_, refl, ap, sym, _∙_}
 use mathlib.Core.List.{List}
 use Prim.Native.Nat.{ℕ}
+use borrow.Author.Tests.{ne-eqb}
+use Rattle.row.specs.Profile.{profileOf}
 use Rattle.row.specs.declared.profile.Profile.{Profile}
 use Rattle.row.specs.declared.profile.Named.{Named}
 use Rattle.row.specs.declared.profile.Named.the-variants as named
@@ -10,11 +12,12 @@ use Rattle.sheet.specs.Check.{sheetVerdict}
 use Rattle.sheet.specs.File.{records, linesIn, fileOf, fileVerdict, readBy, fileRead, fileReadBy}
 use Rattle.sheet.specs.Written.{answered, left, fileAnswered, fileLeft, runAnswered, runLeft}
 use Rattle.sheet.specs.Plain.{fileVerdictBy, copyAnswered, copyLeft, fileRunAnswered, fileRunLeft}
+use Rattle.sheet.specs.PlainPromise.{PlainPromise, PlainLetter}
 use Rattle.sheet.specs.declared.line.Line.{Line}
 use Rattle.sheet.specs.declared.lines.Sheet.{Sheet}
 use Rattle.sheet.specs.declared.check.Verdict.{Verdict}
 use Rattle.sheet.specs.declared.check.Verdict.the-variants as verdict
-use Rattle.sheet.proofs.Trips.{verdict-of, accepted-marked, trip-back}
+use Rattle.sheet.proofs.Trips.{verdict-of, accepted-marked, trip-back, trip-lines, trip-verdict}
 use Rattle.sheet.proofs.Together.{file-answer, file-after, run-answer, run-after}
 
 pub verdict-by : (family : Named) (file : List ℕ) → fileReadBy family file .verdict ≡ fileVerdictBy family file
@@ -66,3 +69,19 @@ module _ (profile : Profile) (file : List ℕ) (buf : List ℕ) (at : ℕ) where
 
     pub ran-left : runLeft profile (linesOf (fileRead profile file .sheet)) buf at ≡ fileRunLeft (named.Profile profile) file buf at
     ran-left = ap (λ (s : Sheet). runLeft profile (linesOf s) buf at) (sheet-read profile file e) ∙ run-after profile (lines profile file) buf at ∙ rw (both profile file e)
+
+-- the file of some lines
+pub plain-promise : (letter : ℕ) (profile : Profile) (n : profileOf letter ≡ named.Profile profile) (ls : List Line) (buf : List ℕ) (at : ℕ) → PlainPromise letter profile n ls buf at
+plain-promise letter profile n ls buf at = record {
+  check = rw n (trip-verdict profile ls);
+  copy = rw (n, trip-verdict profile ls) (refl, refl);
+  run = rw (n, trip-verdict profile ls, trip-lines profile ls) (refl, refl);
+}
+
+pub plain-letter : (letter : ℕ) (file buf : List ℕ) (at : ℕ) → PlainLetter letter file buf at
+unfolding profileOf
+plain-letter letter file buf at = record {
+  check = λ a s. rw (ne-eqb letter 0x41 a, ne-eqb letter 0x53 s) (refl, refl);
+  copy = λ a s. rw (ne-eqb letter 0x41 a, ne-eqb letter 0x53 s) ((refl, refl), refl);
+  run = λ a s. rw (ne-eqb letter 0x41 a, ne-eqb letter 0x53 s) ((refl, refl), refl);
+}

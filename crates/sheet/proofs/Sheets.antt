@@ -14,7 +14,8 @@ use lib.Seq.{take-suc-set}
 use Rattle.row.specs.declared.profile.Profile.{Profile}
 use Rattle.sheet.specs.Line.{isLegal, isRepeated}
 use Rattle.sheet.specs.Lines.{sheetLimit, noLines, withLine, linesOf, withAll}
-use Rattle.sheet.specs.Check.{faultOf, lowestFault, sheetVerdict}
+use Rattle.sheet.specs.Check.{lowestFault, sheetVerdict}
+use Rattle.sheet.specs.Computed.{faultOf}
 use Rattle.sheet.specs.SheetPromise.{AtFault, Sound, Lowest, AllSound, Says, SheetPromise}
 use Rattle.sheet.specs.declared.line.Line.{Line}
 use Rattle.sheet.specs.declared.lines.Sheet.{Sheet}

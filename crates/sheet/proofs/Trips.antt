@@ -11,8 +11,9 @@ use lib.Dec.{eqb}
 use lib.ListN.{length}
 use Rattle.row.specs.Profile.{letterOf, profileOf}
 use Rattle.row.specs.declared.profile.Profile.{Profile}
-use Rattle.sheet.specs.Lines.{linesOf, inOrder}
-use Rattle.sheet.specs.Check.{firstRefusal, sheetVerdict}
+use Rattle.row.specs.declared.profile.Profile.the-variants.{A, S}
+use Rattle.sheet.specs.Lines.{withAll, linesOf, inOrder}
+use Rattle.sheet.specs.Check.{firstRefusal, lowestFault, sheetVerdict}
 use Rattle.sheet.specs.File.{Record, recordSize, records, linesIn, isWhole, isMarked, lowestWrong, fileOf, fileVerdict, readBy, fileRead, fileReadBy}
 use Rattle.sheet.specs.SheetPromise.{Says}
 use Rattle.sheet.specs.FilePromise.{LowestWrong, AllMarked, FilePromise, FileTrip, FileLetter}
@@ -58,7 +59,7 @@ module _ (profile : Profile) where
         ∙ ap (λ (n : ℕ). Refused 10 n) (zero-add i)
 
   -- the file of some lines: their records, each marked
-  trip-lines : (ls : List Line) → linesIn (records (fileOf profile ls)) ≡ ls
+  pub trip-lines : (ls : List Line) → linesIn (records (fileOf profile ls)) ≡ ls
   unfolding records linesIn inOrder
   trip-lines [] = refl
   trip-lines (l ∷ ls) = ap (λ (xs : List Line). l ∷ xs) (trip-lines ls)
@@ -139,15 +140,22 @@ file-promise profile file = record {
   wrong = λ q e i w. says (fileVerdict profile file) 10 i (wrong-of profile file q e i w);
   checks = λ q e w. checks-of profile file q e w;
   either = wrong-either profile (records file);
+  said = verdict-of profile (fileVerdict profile file) (linesIn (records file));
+  none = λ n i e. ap (λ (v : Verdict). readBy v (linesIn (records file)) .sheet) e;
   again = trip-again profile file;
 }
 
 pub file-trip : (profile : Profile) (ls : List Line) → FileTrip profile ls
-file-trip profile ls = record { read = trip-read profile ls }
+unfolding fileVerdict lowestWrong records linesIn sheetVerdict lowestFault withAll
+file-trip profile ls = record { empty = refl; read = trip-read profile ls }
 
 pub file-letter : (letter : ℕ) (file : List ℕ) → FileLetter letter file
 unfolding profileOf
-file-letter letter file = record { twelve = twelve-by }
+file-letter letter file = record { named = named-by; twelve = twelve-by }
   where
+    named-by : (profile : Profile) → letter ≡ letterOf profile → fileReadBy (profileOf letter) file ≡ fileRead profile file
+    named-by A e = rw e
+    named-by S e = rw e
+
     twelve-by : (letter ≡ 0x41 → ⊥) → (letter ≡ 0x53 → ⊥) → Says (fileReadBy (profileOf letter) file .verdict) 12 0
     twelve-by a s = rw (ne-eqb letter 0x41 a, ne-eqb letter 0x53 s) (refl, refl)

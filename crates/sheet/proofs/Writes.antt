@@ -130,7 +130,10 @@ size-promise profile ls = record {
   run = run-length profile ls;
   file = file-length profile ls;
   back = λ buf at e h.
-      ap (λ (bytes : List ℕ). linesOf (fileRead profile bytes .sheet)) (there buf at e h) ∙ trip-read profile ls e .1;
+      let w = trip-read profile ls e in (
+        ap (λ (bytes : List ℕ). fileRead profile bytes .verdict) (there buf at e h) ∙ w .0,
+        ap (λ (bytes : List ℕ). linesOf (fileRead profile bytes .sheet)) (there buf at e h) ∙ w .1,
+      );
 }
   where
     there : (buf : List ℕ) (at : ℕ) → sheetVerdict profile ls ≡ verdict.Accepted → at + recordSize * length ls ≤ length buf

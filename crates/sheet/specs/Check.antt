@@ -4,6 +4,7 @@ use mathlib.Core.Bool.{not}
 use mathlib.Core.List.{List, [], _∷_, _++_}
 use lib.Dec.{ltb}
 use lib.ListN.{length}
+use Rattle.frame.specs.Refusal as refusal
 use Rattle.frame.specs.Refusal.{line, ruled}
 use Rattle.row.specs.declared.profile.Profile.{Profile}
 use Rattle.sheet.specs.Line.{isLegal, isRepeated}
@@ -12,16 +13,15 @@ use Rattle.sheet.specs.declared.line.Line.{Line}
 use Rattle.sheet.specs.declared.check.Verdict.{Verdict}
 use Rattle.sheet.specs.declared.check.Verdict.the-variants.{Accepted, Refused}
 
--- the number of a line's fault behind some lines, "7 before 8 on that line"; 0 where it has none
-abbrev pub faultOf : Profile → List Line → Line → ℕ
-faultOf profile earlier l = ruled (line 7 (not (isLegal profile l)) ∷ line 8 (isRepeated earlier l) ∷ []) (λ n. n) 0
+-- a line's faults behind some lines, "7 before 8 on that line"
+abbrev pub faults : Profile → List Line → Line → List refusal.Line
+faults profile earlier l = line 7 (not (isLegal profile l)) ∷ line 8 (isRepeated earlier l) ∷ []
 
 -- "the lowest line at fault", with its index
 unfoldable pub lowestFault : Profile → List Line → List Line → Verdict
 lowestFault profile earlier [] = Accepted
 lowestFault profile earlier (l ∷ ls) =
-    ruled (line 7 (not (isLegal profile l)) ∷ line 8 (isRepeated earlier l) ∷ []) (λ n. Refused n (length earlier))
-    (lowestFault profile (earlier ++ l ∷ []) ls)
+    ruled (faults profile earlier l) (λ n. Refused n (length earlier)) (lowestFault profile (earlier ++ l ∷ []) ls)
 
 -- 6: "sheet of more than 12 lines"; its place is the limit
 abbrev pub overLimit : List Line → Verdict

@@ -2,8 +2,10 @@
 use Prim.Native.Nat.{ℕ, _+_}
 use mathlib.Core.List.{List, _++_}
 use lib.ListN.{getD, replicate}
+use Rattle.frame.specs.Refusal.{ruled}
 use Rattle.row.specs.declared.profile.Profile.{Profile}
 use Rattle.sheet.specs.Lines.{inOrder}
+use Rattle.sheet.specs.Check.{faults}
 use Rattle.sheet.specs.File.{Record, recordOf}
 use Rattle.sheet.specs.Run.{flush, lineFrame}
 use Rattle.sheet.specs.declared.line.Line.{Line}
@@ -32,3 +34,7 @@ bytesOf form.Run profile l = lineFrame l
 
 abbrev pub sheetBytes : Form → Profile → List Line → List ℕ
 sheetBytes f profile ls = replicate (zerosOf f) 0 ++ inOrder (bytesOf f profile) ls
+
+-- the number of a line's fault behind some lines; 0 where it has none
+abbrev pub faultOf : Profile → List Line → Line → ℕ
+faultOf profile earlier l = ruled (faults profile earlier l) (λ n. n) 0

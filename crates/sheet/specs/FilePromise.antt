@@ -7,14 +7,14 @@ use mathlib.Core.List.{List, [], _∷_}
 use mathlib.Core.Logic.{_⊎_}
 use Prim.Native.Nat.{ℕ, zero, suc, _+_, _*_, _<_}
 use lib.ListN.{length}
-use Rattle.row.specs.Profile.{profileOf}
+use Rattle.row.specs.Profile.{letterOf, profileOf}
 use Rattle.row.specs.declared.profile.Profile.{Profile}
-use Rattle.sheet.specs.Lines.{linesOf}
+use Rattle.sheet.specs.Lines.{noLines, linesOf}
 use Rattle.sheet.specs.Check.{sheetVerdict}
 use Rattle.sheet.specs.File.{Record, recordSize, records, linesIn, isMarked, fileOf, fileVerdict, fileRead, fileReadBy}
 use Rattle.sheet.specs.SheetPromise.{Says}
 use Rattle.sheet.specs.declared.line.Line.{Line}
-use Rattle.sheet.specs.declared.check.Verdict.the-variants.{Accepted}
+use Rattle.sheet.specs.declared.check.Verdict.the-variants.{Accepted, Refused}
 
 -- the record at an index has a wrong mark or profile, and none before it has
 abbrev pub LowestWrong : Profile → List Record → ℕ → Type 0
@@ -32,14 +32,21 @@ pub record FilePromise (profile : Profile) (file : List ℕ) : Type 0 where
   pub checks : (q : ℕ) → length file ≡ q * recordSize → AllMarked profile (records file)
       → fileVerdict profile file ≡ sheetVerdict profile (linesIn (records file))
   pub either : ((i : ℕ) × LowestWrong profile (records file) i) ⊎ AllMarked profile (records file)
+  -- reading says that verdict; a refused file gives no lines
+  pub said : fileRead profile file .verdict ≡ fileVerdict profile file
+  pub none : (n i : ℕ) → fileVerdict profile file ≡ Refused n i → fileRead profile file .sheet ≡ noLines
   -- an accepted file is written back to the same bytes
   pub again : fileRead profile file .verdict ≡ Accepted → fileOf profile (linesOf (fileRead profile file .sheet)) ≡ file
 
 pub record FileTrip (profile : Profile) (ls : List Line) : Type 0 where
+  -- "An empty file is an empty sheet."
+  pub empty : fileRead profile [] ≡ record { verdict = Accepted; sheet = noLines }
   -- an accepted sheet's file is read as the same lines, in order
   pub read : sheetVerdict profile ls ≡ Accepted
       → (fileRead profile (fileOf profile ls) .verdict ≡ Accepted) × (linesOf (fileRead profile (fileOf profile ls) .sheet) ≡ ls)
 
 pub record FileLetter (letter : ℕ) (file : List ℕ) : Type 0 where
-  -- 12 for any letter but A and S, whatever the file holds
+  -- A and S name their profiles
+  pub named : (profile : Profile) → letter ≡ letterOf profile → fileReadBy (profileOf letter) file ≡ fileRead profile file
+  -- 12 for any other letter, whatever the file holds
   pub twelve : (letter ≡ 0x41 → ⊥) → (letter ≡ 0x53 → ⊥) → Says (fileReadBy (profileOf letter) file .verdict) 12 0

@@ -10,4 +10,5 @@ pub mod Plain
 pub mod SheetPromise
 pub mod FilePromise
 pub mod WrittenPromise
+pub mod PlainPromise
 pub mod Computed

@@ -32,4 +32,5 @@ pub record SizePromise (profile : Profile) (ls : List Line) : Type 0 where
   pub run : length (runOf ls) ≡ flush + recordSize * length ls
   pub file : length (fileOf profile ls) ≡ recordSize * length ls
   pub back : (buf : List ℕ) (at : ℕ) → sheetVerdict profile ls ≡ verdict.Accepted → at + recordSize * length ls ≤ length buf
-      → linesOf (fileRead profile (take (recordSize * length ls) (drop at (fileLeft profile ls buf at))) .sheet) ≡ ls
+      → (fileRead profile (take (recordSize * length ls) (drop at (fileLeft profile ls buf at))) .verdict ≡ verdict.Accepted)
+      × (linesOf (fileRead profile (take (recordSize * length ls) (drop at (fileLeft profile ls buf at))) .sheet) ≡ ls)

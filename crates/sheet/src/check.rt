@@ -10,7 +10,8 @@ ghost use mathlib.Core.List.{[]};
 ghost use lib.ListN.{take, getD};
 ghost use Rattle.sheet.specs.Line.{isRepeated};
 ghost use Rattle.sheet.specs.Lines.{sheetLimit, noLine, firstLines, linesOf};
-ghost use Rattle.sheet.specs.Check.{faultOf, lowestFault, sheetVerdict};
+ghost use Rattle.sheet.specs.Check.{lowestFault, sheetVerdict};
+ghost use Rattle.sheet.specs.Computed.{faultOf};
 
 // What the check of a sheet says: accepted, or the number and the line's index.
 pub enum Verdict {
