@@ -103,6 +103,7 @@ module _ (profile : Profile) (ls : List Line) (capture : List ℕ) where
   pub capture-promise : CapturePromise profile ls capture
   capture-promise = record {
     frames = frames;
+    fed = λ h t. let e = fed-short t capture h in (ap (λ (x : CaptureFed). x .tracker) e, ap (λ (x : CaptureFed). x .answer) e);
     long = long;
     refused = λ h n i e. short h ∙ sign-promise after ls .refused n i (its-verdict profile (broughtBy capture) ls ∙ e);
     yes = λ h a w. short h ∙ signed-promise profile (broughtBy capture) ls .signed a w;

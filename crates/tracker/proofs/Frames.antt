@@ -5,11 +5,11 @@ use mathlib.Core.List.{List, [], _∷_, _++_, append-assoc, append-nil}
 use Prim.Native.Nat.{ℕ, zero, suc, _+_}
 use native.Mathlib.Nat.{zero-add, add-zero}
 use native.Mathlib.Omega.{arith}
-use borrow.Author.Tests.{le-leb, lt-leb, leb-true, leb-false}
+use borrow.Author.Tests.{ne-eqb, le-leb, lt-leb, leb-true, leb-false}
 use lib.Dec.{leb}
 use lib.ListN.{length, replicate, length-append}
 use lib.Seq.{take-append-seam, drop-append-add}
-use Rattle.frame.specs.Frame.{frameLength, frameOf}
+use Rattle.frame.specs.Frame.{opens, frameLength, frameOf}
 use Rattle.frame.specs.Reader.{answerTo, takenAfter, answers, takenBy}
 use Rattle.frame.specs.Capture.{event, eventsTold, eventsFrom}
 use Rattle.frame.specs.Fields.{bytesAt}
@@ -20,6 +20,7 @@ use Rattle.frame.specs.declared.reader.ByteAnswer.the-variants.{Waiting, Noise,
 use Rattle.frame.specs.declared.capture.Kind.the-variants as kind
 use Rattle.frame.proofs.Header.{frame-length}
 use Rattle.frame.proofs.Back.{frame-promise}
+use Rattle.tracker.specs.CapturePromise.{BroughtPromise}
 use Rattle.tracker.specs.Feed.{Brought}
 use Rattle.tracker.specs.Capture.{broughtIn, broughtAll, broughtBy}
 
@@ -130,3 +131,22 @@ pub brought-one : (zone command ac : ℕ) (body : List ℕ) → broughtBy (frame
 brought-one zone command ac body =
     ap broughtBy (sym (append-nil (frameOf Answer zone command ac body))) ∙ brought-behind zone command ac body []
     ∙ ap (λ (xs : List Brought). record { zone = zone; command = command; answer = ac; body = body } ∷ xs) brought-none
+
+-- a byte outside any frame brings nothing
+noise-here : (b : ℕ) (rest : List ℕ) → (b ≡ opens → ⊥) → broughtBy (b ∷ rest) ≡ broughtBy rest
+unfolding broughtAll eventsFrom eventsTold answers takenBy answerTo takenAfter
+noise-here b rest other =
+    let noise : answerTo Answer [] b ≡ Noise = rw (ne-eqb b opens other) in
+    let outside : takenAfter Answer [] b ≡ [] = rw (ne-eqb b opens other) in
+    ap (λ (a : ByteAnswer). broughtAll (b ∷ rest) (eventsTold 0 (a ∷ answers Answer (takenAfter Answer [] b) rest) (length (takenBy Answer (takenAfter Answer [] b) rest)))) noise
+    ∙ ap (λ (t : List ℕ). broughtAll (b ∷ rest) (eventsTold 0 (Noise ∷ answers Answer t rest) (length (takenBy Answer t rest)))) outside
+    ∙ shift (b ∷ []) rest (answers Answer [] rest) (length (takenBy Answer [] rest)) 0
+
+pub brought-promise : BroughtPromise
+brought-promise = record {
+  none = brought-none;
+  frame = brought-behind;
+  noise = noise-here;
+  every = λ capture. refl;
+  others = λ capture at n. (refl, refl, refl);
+}

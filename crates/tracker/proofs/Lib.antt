@@ -1,6 +1,7 @@
 -- Proofs about trackers: their cells, feeding, history, sign-off, captures, refusals, one answer for each function, and computed
 -- witnesses.
 pub mod Cells
+pub mod Keeps
 pub mod Feeds
 pub mod History
 pub mod Signs

@@ -1,25 +1,33 @@
 -- A sheet file signed off by a capture, and a cell of a capture: over the limit, and within it.
 use mathlib.Core.Path.{_≡_, refl, ap, sym, _∙_}
 use mathlib.Core.Bool.{Bool, true, false}
-use mathlib.Core.List.{List}
+use mathlib.Core.List.{List, [], _∷_}
 use Prim.Native.Nat.{ℕ, _≤_, _<_}
-use borrow.Author.Tests.{lt-ltb, le-ltb, ltb-true, ltb-false}
+use borrow.Author.Tests.{ne-eqb, lt-ltb, le-ltb, ltb-true, ltb-false}
 use lib.Dec.{ltb}
 use lib.ListN.{length}
+use Rattle.frame.specs.Refusal.{ruled}
 use Rattle.frame.specs.Capture.{captureLimit}
+use Rattle.row.specs.Profile.{profileOf}
 use Rattle.row.specs.declared.profile.Profile.{Profile}
+use Rattle.row.specs.declared.profile.Named.the-variants as named
 use Rattle.sheet.specs.Lines.{linesOf}
 use Rattle.sheet.specs.File.{records, linesIn, fileRead}
 use Rattle.sheet.specs.declared.line.Line.{Line}
 use Rattle.sheet.specs.declared.lines.Sheet.{Sheet}
 use Rattle.sheet.specs.declared.check.Verdict.{Verdict}
 use Rattle.sheet.specs.declared.check.Verdict.the-variants as verdict
+use Rattle.sheet.proofs.Trips.{trip-lines, trip-verdict}
 use Rattle.sheet.proofs.Plains.{said, both, sheet-read}
 use Rattle.tracker.specs.Kept.{fresh, keptIn}
 use Rattle.tracker.specs.Feed.{fedAll}
 use Rattle.tracker.specs.Sign.{allHold, signedBy}
-use Rattle.tracker.specs.Capture.{broughtBy, captureFed, captureSigned}
-use Rattle.tracker.specs.Plain.{fileSigned, shown, captureCell}
+use Rattle.tracker.specs.Capture.{broughtBy, longCapture, captureFed, captureSigned}
+use Rattle.tracker.specs.Numbers.{keptState, keptByte}
+use Rattle.tracker.specs.Plain.{fileSigned, shown, captureCell, captureCellNumber, captureCellState, captureCellByte}
+use Rattle.tracker.specs.PlainPromise.{PlainPromise, PlainLetter}
+use Rattle.tracker.specs.declared.kept.Kept.{Kept}
+use Rattle.tracker.specs.declared.kept.Kept.the-variants as kept
 use Rattle.tracker.specs.declared.kept.Tracker.{Tracker}
 use Rattle.tracker.specs.declared.sign.Signed.the-variants as signed
 use Rattle.tracker.specs.declared.capture.CaptureFed.{CaptureFed}
@@ -71,3 +79,23 @@ module _ (profile : Profile) (capture : List ℕ) (zone command : ℕ) (f : Capt
       go true g =
           rw g (ap cell.Refused (same-number 11 n (sym (ap (λ (x : CaptureFed). x .answer) (e ∙ fed-long (fresh profile) capture (ltb-true _ _ g))) ∙ refused)))
       go false g = absurd (fed-not n (sym (ap (λ (x : CaptureFed). x .answer) (e ∙ fed-short (fresh profile) capture (ltb-false _ _ g))) ∙ refused))
+
+shown-state : (k : Kept) → (captureCellNumber (shown k) ≡ 0) × (captureCellState (shown k) ≡ keptState k) × (captureCellByte (shown k) ≡ keptByte k)
+shown-state (kept.Value b) = (refl, refl, refl)
+shown-state kept.Unknown = (refl, refl, refl)
+shown-state kept.NoCell = (refl, refl, refl)
+
+pub plain-promise : (letter : ℕ) (profile : Profile) (n : profileOf letter ≡ named.Profile profile) (capture : List ℕ) → PlainPromise letter profile n capture
+plain-promise letter profile n capture = record {
+  signs = λ ls.
+      let t = fedAll (fresh profile) (broughtBy capture) in
+      rw (n, trip-verdict profile ls, trip-lines profile ls)
+      (ap (λ (v : Verdict). ruled (longCapture capture ∷ []) (λ m. signed.Refused m 0) (signedBy v (allHold t ls))) (sym (its-verdict profile (broughtBy capture) ls)));
+  shows = λ h zone command.
+      rw (n, le-ltb captureLimit (length capture) h) (shown-state (keptIn (fedAll (fresh profile) (broughtBy capture)) zone command));
+  eleven = λ h file zone command. rw (n, lt-ltb captureLimit (length capture) h) (refl, refl);
+}
+
+pub plain-letter : (letter : ℕ) (file capture : List ℕ) (zone command : ℕ) → PlainLetter letter file capture zone command
+unfolding profileOf
+plain-letter letter file capture zone command = record { twelve = λ a s. rw (ne-eqb letter 0x41 a, ne-eqb letter 0x53 s) (refl, refl, refl) }

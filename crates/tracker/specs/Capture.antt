@@ -1,5 +1,5 @@
--- Document 01, 'Tracker', of a capture: its answer frames are fed in order. 'Refusal numbers', 11: "capture over 60,000 bytes";
--- "Order: 12, then 11, before all others."
+-- A capture fed to a tracker: what its answer frames bring, in order (ours: document 01's tracker takes one answer at a time). A
+-- capture is read whole, by a fresh reader. 'Refusal numbers', 11: "capture over 60,000 bytes"; "Order: 12, then 11, before all others."
 use Prim.Native.Nat.{ℕ}
 use mathlib.Core.List.{List, [], _∷_, _++_}
 use lib.Dec.{ltb}

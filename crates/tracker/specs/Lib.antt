@@ -7,8 +7,10 @@ pub mod Sign
 pub mod Capture
 pub mod Plain
 pub mod Numbers
+pub mod CellPromise
 pub mod FeedPromise
 pub mod HistoryPromise
 pub mod SignPromise
 pub mod CapturePromise
+pub mod PlainPromise
 pub mod RefusalPromise

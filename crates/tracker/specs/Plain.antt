@@ -41,12 +41,18 @@ abbrev pub captureCellBy : Named → List ℕ → ℕ → ℕ → CaptureCell
 captureCellBy (named.Profile profile) capture zone command = captureCell profile capture zone command
 captureCellBy (named.Refused n) capture zone command = cell.Refused n
 
--- its number, and its byte
+-- its number; 1 for a byte, 0 for unknown or refused and 2 for no cell; and its byte
 abbrev pub captureCellNumber : CaptureCell → ℕ
 captureCellNumber (cell.Value b) = 0
 captureCellNumber cell.Unknown = 0
 captureCellNumber cell.NoCell = 0
 captureCellNumber (cell.Refused n) = n
+
+abbrev pub captureCellState : CaptureCell → ℕ
+captureCellState (cell.Value b) = 1
+captureCellState cell.Unknown = 0
+captureCellState cell.NoCell = 2
+captureCellState (cell.Refused n) = 0
 
 abbrev pub captureCellByte : CaptureCell → ℕ
 captureCellByte (cell.Value b) = b

@@ -35,7 +35,8 @@ pub fn feed(tracker: &mut Tracker, zone: u8, command: u8, answer: u8, body: &[u8
     f.reading
 }
 
-// Feeds every answer frame of a capture, in order; 11 for a capture over 60,000 bytes, and then the tracker is as it was.
+// Feeds every answer frame of a whole capture, in order; 11 for a capture over 60,000 bytes, and then the tracker is
+// as it was. A frame that is cut between two captures is fed by neither.
 pub fn feed_capture(tracker: &mut Tracker, capture: &[u8]) -> CaptureAnswer
     ensures { λ r. ⌜ (r ≡ captureFed (now (tracker .entry)) (now (capture .entry)) .answer) × (now (tracker .exit) ≡ captureFed (now (tracker .entry)) (now (capture .entry)) .tracker) ⌝ }
 {

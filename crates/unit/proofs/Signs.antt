@@ -115,11 +115,12 @@ module _ (profile : Profile) (start want : Settings) (zeros : ℕ) (enough : 255
   one-sending u g =
       let flushed : Unit = after u (replicate zeros 0) in
       let near : Within Command 1 (flushed .taken) = zeros-near zeros 1 u (near-more 256 (zeros + 1) (u .taken) (omega arith) (g .near)) in
-      let family : flushed .profile ≡ profile = after-profile u (replicate zeros 0) ∙ g .family in
-      (broughtBy (replies u (replicate zeros 0)),
+      let family : flushed .profile ≡ profile = after-profile u (replicate zeros 0) ∙ g .family in (
+        broughtBy (replies u (replicate zeros 0)),
         ap broughtBy (replies-append u (replicate zeros 0) (framesOf ls))
-        ∙ brought-append u (replicate zeros 0) (replies flushed (framesOf ls))
-        ∙ ap (λ (xs : List Brought). broughtBy (replies u (replicate zeros 0)) ++ xs) (frames-answered ls flushed (rw family legal) near))
+            ∙ brought-append u (replicate zeros 0) (replies flushed (framesOf ls))
+            ∙ ap (λ (xs : List Brought). broughtBy (replies u (replicate zeros 0)) ++ xs) (frames-answered ls flushed (rw family legal) near),
+      )
 
   all-sendings : (cuts : List ℕ) (u : Unit) → Good profile start want u → Ends u (sendings cuts (sending zeros ls))
   all-sendings [] u g = one-sending u g
@@ -127,12 +128,13 @@ module _ (profile : Profile) (start want : Settings) (zeros : ℕ) (enough : 255
       let part = take cut (sending zeros ls) in
       let next : Unit = after u part in
       let good = always-last (Good profile start want) u part (always-take (Good profile start want) cut u (sending zeros ls) (sent-good profile start want zeros enough ls w u g)) in
-      let more = all-sendings cuts next good in
-      (broughtBy (replies u part) ++ more .0,
+      let more = all-sendings cuts next good in (
+        broughtBy (replies u part) ++ more .0,
         ap broughtBy (replies-append u part (sendings cuts (sending zeros ls)))
-        ∙ brought-append u part (replies next (sendings cuts (sending zeros ls)))
-        ∙ ap (λ (xs : List Brought). broughtBy (replies u part) ++ xs) (more .1)
-        ∙ sym (append-assoc (broughtBy (replies u part)) (more .0) (answersOf ls)))
+            ∙ brought-append u part (replies next (sendings cuts (sending zeros ls)))
+            ∙ ap (λ (xs : List Brought). broughtBy (replies u part) ++ xs) (more .1)
+            ∙ sym (append-assoc (broughtBy (replies u part)) (more .0) (answersOf ls)),
+      )
 
 -- a status among the answers
 none-behind : (profile : Profile) (zone command : ℕ) (xs ys : List Brought) → NoneOf profile zone command (xs ++ ys) → NoneOf profile zone command ys
@@ -174,9 +176,10 @@ module _ (profile : Profile) (s : Settings) (legal : Legal profile s) where
   all-known earlier [] w = tt
   all-known earlier (l ∷ ls) w =
       let here : NoneOf profile (l .zone) (l .command) (earlier ++ answerOf l ∷ answersOf ls) → ⊥ =
-          λ n. none-behind profile (l .zone) (l .command) earlier (answerOf l ∷ answersOf ls) n .0 (line-status profile s legal l (w .0)) in
-      (known-by (earlier ++ answerOf l ∷ answersOf ls) l (w .0) here,
-        subst (λ (fs : List Brought). Each (Known fs) ls) (append-assoc earlier (answerOf l ∷ []) (answersOf ls)) (all-known (earlier ++ answerOf l ∷ []) ls (w .1)))
+      λ n. none-behind profile (l .zone) (l .command) earlier (answerOf l ∷ answersOf ls) n .0 (line-status profile s legal l (w .0)) in (
+        known-by (earlier ++ answerOf l ∷ answersOf ls) l (w .0) here,
+        subst (λ (fs : List Brought). Each (Known fs) ls) (append-assoc earlier (answerOf l ∷ []) (answersOf ls)) (all-known (earlier ++ answerOf l ∷ []) ls (w .1)),
+      )
 
 -- a line whose cell is known to the tracker, and true of the unit, and set in the unit, holds
 module _ (t : Tracker) (now : Settings) (true-now : (zone command b : ℕ) → keptIn t zone command ≡ Value b → now (value zone command) ≡ b) where

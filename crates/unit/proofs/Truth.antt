@@ -199,9 +199,9 @@ true-on u [] legal t fit h = subst (λ (fs : List Brought). True (fedAll t fs) (
 true-on u (b ∷ bs) legal t fit h =
     let next = fedAll t (broughtBy (done u b .answer)) in
     let step : True next (takes u b .settings) =
-        by-frame u b (λ (d : Done). True (fedAll t (broughtBy (d .answer))) (d .settings))
-        (subst (λ (fs : List Brought). True (fedAll t fs) (u .settings)) (sym brought-none) h)
-        (frame-true (u .profile) (u .settings) legal t fit h (u .taken ++ b ∷ [])) in
+    by-frame u b (λ (d : Done). True (fedAll t (broughtBy (d .answer))) (d .settings))
+    (subst (λ (fs : List Brought). True (fedAll t fs) (u .settings)) (sym brought-none) h)
+    (frame-true (u .profile) (u .settings) legal t fit h (u .taken ++ b ∷ [])) in
     let rest = true-on (takes u b) bs (unit-promise u (b ∷ []) .legal legal) next (fit-all (u .profile) t (broughtBy (done u b .answer)) fit) step in
     subst (λ (y : Tracker). True y (after (takes u b) bs .settings))
     (sym (ap (fedAll t) (done-splits u b (replies (takes u b) bs)) ∙ fed-append t (broughtBy (done u b .answer)) (broughtBy (replies (takes u b) bs)))) rest
