@@ -1,4 +1,5 @@
 pub mod Ruled
+pub mod Room
 pub mod Rules
 pub mod Header
 pub mod Cases

@@ -1,11 +1,11 @@
 -- What writing an accepted sheet answers and leaves, by the room that there is.
-use mathlib.Core.Path.{_≡_, refl, ap, sym}
+use mathlib.Core.Path.{_≡_, ap, sym, _∙_}
 use Prim.Native.Nat.{ℕ, _-_, _≤_, _<_}
 use mathlib.Core.List.{List}
 use native.Mathlib.Omega.{arith}
-use borrow.Author.Tests.{lt-ltb, le-ltb}
 use lib.ListN.{length}
 use Rattle.frame.specs.Raw.{placed}
+use Rattle.frame.proofs.Room.{no-place, no-room, has-room}
 use Rattle.sheet.specs.Run.{flush}
 use Rattle.sheet.specs.Written.{answered, left}
 use Rattle.sheet.specs.Computed.{zerosOf}
@@ -20,14 +20,20 @@ module _ (buf : List ℕ) (at : ℕ) (bytes : List ℕ) (n : ℕ) (long : length
   Gives said after = (said ≡ answered verdict.Accepted buf at bytes) × (after ≡ left verdict.Accepted buf at bytes)
 
   pub past-end : length buf < at → Gives (Refused 9 0) buf
-  past-end h = rw (lt-ltb (length buf) at h) (refl, refl)
+  past-end h =
+      (sym (no-place buf at (length bytes) (λ k. Refused k 0) (Bytes (length bytes)) h), sym (no-place buf at (length bytes) (λ k. buf) (placed buf at bytes) h))
 
   pub too-few : at ≤ length buf → length buf - at < n → Gives (Refused 9 0) buf
-  too-few within h = rw (le-ltb (length buf) at within, lt-ltb (length buf - at) (length bytes) (omega arith)) (refl, refl)
+  too-few within h =
+      let less : length buf - at < length bytes = omega arith in
+      (sym (no-room buf at (length bytes) (λ k. Refused k 0) (Bytes (length bytes)) within less), sym (no-room buf at (length bytes) (λ k. buf) (placed buf at bytes) within less))
 
   pub enough : at ≤ length buf → n ≤ length buf - at → (after : List ℕ) → after ≡ placed buf at bytes → Gives (Bytes n) after
   enough within h after e =
-      rw (le-ltb (length buf) at within, le-ltb (length buf - at) (length bytes) (omega arith)) (ap Bytes (sym long), e)
+      let fits : length bytes ≤ length buf - at = omega arith in (
+        ap Bytes (sym long) ∙ sym (has-room buf at (length bytes) (λ k. Refused k 0) (Bytes (length bytes)) within fits),
+        e ∙ sym (has-room buf at (length bytes) (λ k. buf) (placed buf at bytes) within fits),
+      )
 
 pub zeros-most : (f : Form) → zerosOf f ≤ flush
 zeros-most form.File = omega arith

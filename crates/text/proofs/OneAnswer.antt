@@ -1,0 +1,16 @@
+-- Each public function's contract admits one answer: its result, and the lent bytes after it.
+use mathlib.Core.Path.{_≡_}
+use mathlib.Core.List.{List}
+use Prim.Native.Nat.{ℕ}
+use Rattle.frame.specs.OneAnswer.{OneAnswer}
+use Rattle.frame.specs.declared.raw.Written.{Written}
+use Rattle.frame.proofs.OneAnswer.{one-lent}
+use Rattle.text.specs.Number.{decimal, hexByte, textAnswered, textLeft}
+
+pub write-decimal-one : (buf : List ℕ) (at number : ℕ)
+    → OneAnswer (λ (x : Written × List ℕ). (x .0 ≡ textAnswered buf at (decimal number)) × (x .1 ≡ textLeft buf at (decimal number)))
+write-decimal-one buf at number = one-lent (textAnswered buf at (decimal number)) (textLeft buf at (decimal number))
+
+pub write-hex-one : (buf : List ℕ) (at byte : ℕ)
+    → OneAnswer (λ (x : Written × List ℕ). (x .0 ≡ textAnswered buf at (hexByte byte)) × (x .1 ≡ textLeft buf at (hexByte byte)))
+write-hex-one buf at byte = one-lent (textAnswered buf at (hexByte byte)) (textLeft buf at (hexByte byte))
