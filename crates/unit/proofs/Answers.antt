@@ -153,6 +153,7 @@ module _ (profile : Profile) (s : Settings) (bytes : List ℕ) where
       let k = commandIn bytes in
       record {
         number = four profile z k (dataIn Command bytes) n e;
+        answer = ap (λ (d : Done). d .answer) (done-refused profile s bytes n e);
         denial = ap (λ (d : Done). frameRead profile Answer (d .answer)) (done-refused profile s bytes n e)
             ∙ answer-reads profile z k (refusalCode n) [] ∙ ap fromReading (denied-reads profile z k n);
       }

@@ -11,6 +11,7 @@ pub mod Demand
 pub mod Stopped
 pub mod Acts
 pub mod Answers
+pub mod Does
 pub mod Streams
 pub mod Wrote
 pub mod Truth

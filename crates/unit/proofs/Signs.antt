@@ -32,10 +32,15 @@ use Rattle.tracker.proofs.Cells.{legal-cell}
 use Rattle.tracker.proofs.Frames.{brought-none, brought-one}
 use Rattle.tracker.proofs.History.{history-promise}
 use Rattle.tracker.proofs.Signs.{its-verdict, sign-promise}
+use Rattle.tracker.proofs.CaptureSigns.{short}
+use Rattle.tracker.specs.Sign.{signOff}
+use Rattle.tracker.specs.declared.sign.Signed.the-variants.{Yes}
+use Rattle.sheet.specs.Check.{sheetVerdict}
+use Rattle.sheet.specs.declared.check.Verdict.the-variants as verdict
 use Rattle.sheet.proofs.Sheets.{sheet-promise}
 use Rattle.unit.specs.Unit.{value, Settings, Unit, nothing, Done, done, frameDone, takes, after, replies}
 use Rattle.unit.specs.Legal.{Legal}
-use Rattle.unit.specs.Sending.{Each, cellOf, sending, sendings}
+use Rattle.unit.specs.Sending.{Each, Bytes, cellOf, sending, sendings}
 use Rattle.unit.specs.Demand3.{stopped}
 use Rattle.unit.specs.TruthPromise.{tracked, SignedSending}
 use Rattle.unit.proofs.Flush.{Within, opened, zero-nearer, quiet}
@@ -189,20 +194,27 @@ module _ (t : Tracker) (now : Settings) (true-now : (zone command b : ℕ) → k
       let same : k .0 .0 ≡ l .value = sym (true-now (l .zone) (l .command) (k .0 .0) (k .0 .1)) ∙ h .0 in
       (k .0 .1 ∙ ap Value same, all-hold ls (k .1) (h .1))
 
-pub signed-sending : SignedSending
+signs-full : (profile : Profile) (s : Settings) (before : List ℕ) (sheet : List Line) (cuts : List ℕ)
+    → Legal profile s → Bytes before → sheetVerdict profile sheet ≡ verdict.Accepted
+    → signOff (tracked profile (replies (stopped profile s before) (sendings cuts (runOf sheet)))) sheet ≡ Yes
 unfolding runOf
+signs-full profile s before sheet cuts legal bytes accepted =
+    let f = fit profile [] sheet (sheet-promise profile sheet .only accepted .1) in
+    let u = stopped profile s before in
+    let want = wanted sheet s in
+    let sent = sendings cuts (sending flush sheet) in
+    let good = start-good flush (omega arith) profile s before sheet cuts bytes (f .legal) (f .apart) in
+    let w = lines flush (omega arith) profile s before sheet cuts bytes (f .legal) (f .apart) in
+    let ends = all-sendings profile s want flush (omega arith) sheet w (f .legal) cuts u good in
+    let t = tracked profile (replies u sent) in
+    let known = subst (λ (fs : List Brought). Each (λ (l : Line). (b : ℕ) × (keptIn (fedAll (fresh profile) fs) (l .zone) (l .command) ≡ Value b)) sheet) (sym (ends .1)) (all-known profile s legal (ends .0) sheet (f .legal)) in
+    let full = demand-3 .holds profile s before sheet cuts legal bytes accepted .full in
+    sign-promise t sheet .yes (its-verdict profile (broughtBy (replies u sent)) sheet ∙ accepted)
+    (all-hold t (after u sent .settings) (known-true u sent legal) sheet known full)
+
+pub signed-sending : SignedSending
 signed-sending = record {
-  signs = λ profile s before sheet cuts legal bytes accepted.
-      let f = fit profile [] sheet (sheet-promise profile sheet .only accepted .1) in
-      let u = stopped profile s before in
-      let want = wanted sheet s in
-      let sent = sendings cuts (sending flush sheet) in
-      let good = start-good flush (omega arith) profile s before sheet cuts bytes (f .legal) (f .apart) in
-      let w = lines flush (omega arith) profile s before sheet cuts bytes (f .legal) (f .apart) in
-      let ends = all-sendings profile s want flush (omega arith) sheet w (f .legal) cuts u good in
-      let t = tracked profile (replies u sent) in
-      let known = subst (λ (fs : List Brought). Each (λ (l : Line). (b : ℕ) × (keptIn (fedAll (fresh profile) fs) (l .zone) (l .command) ≡ Value b)) sheet) (sym (ends .1)) (all-known profile s legal (ends .0) sheet (f .legal)) in
-      let full = demand-3 .holds profile s before sheet cuts legal bytes accepted .full in
-      sign-promise t sheet .yes (its-verdict profile (broughtBy (replies u sent)) sheet ∙ accepted)
-      (all-hold t (after u sent .settings) (known-true u sent legal) sheet known full);
+  signs = signs-full;
+  captured = λ profile s before sheet cuts legal bytes accepted within.
+      short profile sheet (replies (stopped profile s before) (sendings cuts (runOf sheet))) within ∙ signs-full profile s before sheet cuts legal bytes accepted;
 }

@@ -28,9 +28,10 @@ use Rattle.unit.specs.Legal.{Legal, RowIn}
 use Rattle.unit.specs.Sending.{cellOf, sending, sendings}
 use Rattle.unit.specs.UnitTablePromise.{zeros}
 use Rattle.unit.specs.Demand3.{stopped, Promised}
-use Rattle.unit.specs.SendingPromise.{SendingPromise}
+use Rattle.unit.specs.SendingPromise.{SendingPromise, FlushPromise}
 use Rattle.unit.proofs.Tests.{every, row-passes}
 use Rattle.unit.proofs.Sets.{row-there}
+use Rattle.unit.proofs.Sendings.{sending-promise}
 use Rattle.unit.proofs.Demand.{demand-3}
 
 -- 00 in every row, and input 01, are legal in both profiles
@@ -128,3 +129,6 @@ too-few promise =
     let held = promise .holds A zeros (0x21 ∷ 0x01 ∷ 0x3A ∷ 0xFF ∷ []) single [] (omega arith, (omega arith, (omega arith, (omega arith, tt)))) (single-legal, tt) (tt, tt) .full .0 in
     let z : _≡_ {A = ℕ} 0 5 = sym lost ∙ held in
     omega (arith, z)
+
+pub flush-promise : FlushPromise
+flush-promise = record { enough = sending-promise; few = too-few }

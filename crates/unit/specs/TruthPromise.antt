@@ -1,9 +1,12 @@
--- Promise: the incident shut out. Whatever bytes are sent to a unit at legal settings: where all its answers, as bytes, are read and fed
--- to a tracker made new before, each value that the tracker knows is the unit's setting, at every moment. So a sheet that is signed
+-- Promise: what holds where each unit has its own new tracker. Whatever bytes are sent to a unit at legal settings: where all its
+-- answers and no others, as bytes, are read and fed to a tracker made new before, each value that the tracker knows is the unit's
+-- setting, at every moment. So a sheet that is signed
 -- off is a sheet that the unit holds now. And after the full sending of demand 3 the unit's answers sign the sheet off.
-use Prim.Native.Nat.{ℕ}
+use Prim.Native.Nat.{ℕ, _≤_}
 use mathlib.Core.Path.{_≡_}
 use mathlib.Core.List.{List}
+use lib.ListN.{length}
+use Rattle.frame.specs.Capture.{captureLimit}
 use Rattle.row.specs.declared.profile.Profile.{Profile}
 use Rattle.sheet.specs.Check.{sheetVerdict}
 use Rattle.sheet.specs.Run.{runOf}
@@ -39,3 +42,8 @@ pub record SignedSending : Type 0 where
   pub signs : (profile : Profile) (s : Settings) (before : List ℕ) (sheet : List Line) (cuts : List ℕ)
       → Legal profile s → Bytes before → sheetVerdict profile sheet ≡ verdict.Accepted
       → signOff (tracked profile (replies (stopped profile s before) (sendings cuts (runOf sheet)))) sheet ≡ Yes
+  -- and so as a capture, where it is within the limit
+  pub captured : (profile : Profile) (s : Settings) (before : List ℕ) (sheet : List Line) (cuts : List ℕ)
+      → Legal profile s → Bytes before → sheetVerdict profile sheet ≡ verdict.Accepted
+      → length (replies (stopped profile s before) (sendings cuts (runOf sheet))) ≤ captureLimit
+      → captureSigned profile sheet (replies (stopped profile s before) (sendings cuts (runOf sheet))) ≡ Yes
