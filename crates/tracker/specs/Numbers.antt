@@ -4,8 +4,6 @@
 use Prim.Native.Nat.{ℕ}
 use mathlib.Core.List.{List}
 use Rattle.message.specs.Numbers.{readingNumber, Paper, readingPaper}
-use Rattle.tracker.specs.declared.cell.Cell.{Cell}
-use Rattle.tracker.specs.declared.cell.Cell.the-variants as cell
 use Rattle.tracker.specs.declared.kept.Kept.{Kept}
 use Rattle.tracker.specs.declared.kept.Kept.the-variants as kept
 use Rattle.tracker.specs.declared.feed.Fed.{Fed}
@@ -14,21 +12,7 @@ use Rattle.tracker.specs.declared.sign.Signed.the-variants as signed
 use Rattle.tracker.specs.declared.capture.CaptureAnswer.{CaptureAnswer}
 use Rattle.tracker.specs.declared.capture.CaptureAnswer.the-variants as answer
 
--- where a cell is: no refusal; 1 stands for a cell and 0 for none, for which the paper has no numbers; its index
-abbrev pub cellThere : Cell → ℕ
-cellThere (cell.At i) = 1
-cellThere cell.NoCell = 0
-
-abbrev pub cellIndex : Cell → ℕ
-cellIndex (cell.At i) = i
-cellIndex cell.NoCell = 0
-
 -- what is kept: no refusal; 1 stands for a byte, 0 for unknown and 2 for no cell, for which the paper has no numbers; its byte
-abbrev pub keptNumber : Kept → ℕ
-keptNumber (kept.Value b) = 0
-keptNumber kept.Unknown = 0
-keptNumber kept.NoCell = 0
-
 abbrev pub keptState : Kept → ℕ
 keptState (kept.Value b) = 1
 keptState kept.Unknown = 0
@@ -42,9 +26,6 @@ keptByte kept.NoCell = 0
 -- an answer that was fed: the number and the fields of what it read as; 1 to 5 have no place
 abbrev pub fedNumber : Fed → ℕ
 fedNumber f = readingNumber (f .reading)
-
-abbrev pub fedPlace : Fed → ℕ
-fedPlace f = 0
 
 abbrev pub fedPaper : Fed → List ℕ → Paper
 fedPaper f body = readingPaper (f .tracker .profile) (f .reading) body
