@@ -8,6 +8,7 @@ pub mod Parts
 pub mod Taken
 pub mod Kept
 pub mod Events
+pub mod Leads
 pub mod Totals
 pub mod Means
 pub mod Cut

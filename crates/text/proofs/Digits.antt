@@ -1,6 +1,6 @@
 -- The digits of a number: counted, and written from the last to the first.
 use mathlib.Core.Path.{_≡_, refl, ap, sym, _∙_}
-use mathlib.Core.Bool.{Bool, true, false}
+use mathlib.Core.Bool.{Bool, true, false, cond}
 use mathlib.Core.List.{List, [], _∷_, _++_, append-assoc}
 use Prim.Native.Nat.{ℕ, zero, suc, _+_, _-_, _/_, _%_, _≤_, _<_}
 use native.Mathlib.Omega.{arith}
@@ -72,3 +72,16 @@ set-before tail before later (suc j) d h room e =
     let same : suc j - 1 ≡ j = omega arith in
     rw same (ap (λ (xs : List ℕ). set xs j d) (e ∙ ap (λ (xs : List ℕ). xs ++ later) (take-suc before j 0 room) ∙ append-assoc (take j before) (getD before j 0 ∷ []) later)
     ∙ set-at (take j before) (getD before j 0) later d j (length-take-le j before (omega arith)))
+
+pub decimal-long : (n : ℕ) → n < 100000 → length (decimal n) ≡ places n
+decimal-long n small = ap (λ (ds : List ℕ). length ds) (decimal-is n small) ∙ digits-count (places n) n
+
+pub places-most : (n : ℕ) → places n ≤ 5
+places-most n = go (ltb n 10) (ltb n 100) (ltb n 1000) (ltb n 10000)
+  where
+    go : (a b c d : Bool) → cond a 1 (cond b 2 (cond c 3 (cond d 4 5))) ≤ 5
+    go true b c d = omega arith
+    go false true c d = omega arith
+    go false false true d = omega arith
+    go false false false true = omega arith
+    go false false false false = omega arith

@@ -1,9 +1,17 @@
 -- What the private functions compute. Nothing here need be believed: proofs/ ties each form to the definitions.
-use Prim.Native.Nat.{ℕ, zero, suc, _/_, _%_}
-use mathlib.Core.Bool.{cond}
+use Prim.Native.Nat.{ℕ, zero, suc, _+_, _/_, _%_, _≤_}
+use mathlib.Core.Bool.{Bool, true, false, cond}
 use mathlib.Core.List.{List, [], _∷_, _++_}
+use mathlib.Core.Path.{_≡_}
 use lib.Dec.{ltb}
+use lib.ListN.{length}
+use Rattle.frame.specs.Raw.{placed}
+use Rattle.text.specs.Letters.{letters}
 use Rattle.text.specs.Number.{digit}
+use Rattle.text.specs.Listing.{row}
+use Rattle.text.specs.Pieces.{Given}
+use Rattle.text.specs.declared.listing.Place.{Place}
+use Rattle.text.specs.declared.listing.Place.the-variants as place
 
 abbrev pub places : ℕ → ℕ
 places n = cond (ltb n 10) 1 (cond (ltb n 100) 2 (cond (ltb n 1000) 3 (cond (ltb n 10000) 4 5)))
@@ -12,3 +20,28 @@ places n = cond (ltb n 10) 1 (cond (ltb n 100) 2 (cond (ltb n 1000) 3 (cond (ltb
 unfoldable pub lastDigits : ℕ → ℕ → List ℕ
 lastDigits zero n = []
 lastDigits (suc k) n = lastDigits k (n / 10) ++ digit (n % 10) ∷ []
+
+-- a text of at most so many bytes was put at a place: the buffer after it, and the place behind it
+pub record Put (most : ℕ) (buf : List ℕ) (at : ℕ) (text after : List ℕ) (end : ℕ) : Type 0 where
+  pub stands : after ≡ placed buf at text
+  pub ends : end ≡ at + length text
+  pub short : end ≤ at + most
+
+-- what stands behind the first word of a line
+abbrev pub behind : List (List ℕ) → List ℕ
+behind [] = letters "\n"
+behind (w ∷ ws) = letters " " ++ row w ws
+
+-- the first of the rows yet to come
+abbrev pub firstText : List Given → List ℕ
+firstText [] = []
+firstText (g ∷ gs) = g .text
+
+abbrev pub firstNext : Place → List Given → Place
+firstNext at [] = at
+firstNext at (g ∷ gs) = g .next
+
+abbrev pub isEnd : Place → Bool
+isEnd place.Start = false
+isEnd (place.Event at) = false
+isEnd place.End = true

@@ -2,4 +2,6 @@
 pub mod Number
 pub mod Letters
 pub mod Listing
+pub mod Pieces
+pub mod PiecesPromise
 pub mod Computed

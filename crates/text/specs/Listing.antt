@@ -5,7 +5,7 @@ use mathlib.Core.Bool.{cond}
 use mathlib.Core.List.{List, [], _∷_, _++_}
 use lib.Dec.{ltb}
 use lib.IntN.{ℤ, pos, negsuc}
-use lib.ListN.{length}
+use lib.ListN.{length, drop}
 use Rattle.frame.specs.Refusal.{line, ruled}
 use Rattle.frame.specs.Letter.{directionOf}
 use Rattle.frame.specs.Capture.{captureLimit, totalsOf, eventsFrom}
@@ -27,6 +27,8 @@ use Rattle.message.specs.declared.content.Content.the-variants.{Request, Up, Do
 use Rattle.message.specs.declared.read.FrameReading.{FrameReading}
 use Rattle.message.specs.declared.read.FrameReading.the-variants as frame
 use Rattle.message.specs.declared.read.Message.the-variants as message
+use Rattle.text.specs.declared.listing.Asked.{Asked}
+use Rattle.text.specs.declared.listing.Asked.the-variants as asks
 use Rattle.text.specs.Letters.{letters}
 use Rattle.text.specs.Number.{decimal, hexByte}
 
@@ -45,12 +47,12 @@ valueText Off = letters "off"
 valueText Toggle = letters "toggle"
 valueText LevellerOff = letters "off"
 valueText (Number z) = integer z
-valueText (Input input on) = decimal input ++ letters ":" ++ decimal (cond on 1 0)
+valueText (Input input on) = decimal input ++ (letters ":" ++ decimal (cond on 1 0))
 
 -- one line: words with a space between them, and a line end
 unfoldable pub row : List ℕ → List (List ℕ) → List ℕ
 row word [] = word ++ letters "\n"
-row word (w ∷ ws) = word ++ letters " " ++ row w ws
+row word (w ∷ ws) = word ++ (letters " " ++ row w ws)
 
 abbrev pub dash : List ℕ
 dash = letters "-"
@@ -102,15 +104,22 @@ listing profile dir capture =
 abbrev pub refusedText : ℕ → List ℕ
 refusedText n = row (letters "refused") (decimal n ∷ [])
 
--- "Order: 12, then 11, before all others."
-abbrev pub listedBy : profile.Named → direction.Named → List ℕ → List ℕ
-listedBy (family.Profile p) (directed.Direction dir) capture = ruled (line 11 (ltb captureLimit (length capture)) ∷ []) refusedText (listing p dir capture)
-listedBy (family.Profile p) (directed.Refused n) capture = refusedText n
-listedBy (family.Refused n) (directed.Direction dir) capture = refusedText n
-listedBy (family.Refused n) (directed.Refused m) capture = refusedText n
+-- what an input asks for: "Order: 12, then 11, before all others."
+abbrev pub askedBy : profile.Named → direction.Named → ℕ → Asked
+askedBy (family.Profile p) (directed.Direction dir) count = ruled (line 11 (ltb captureLimit count) ∷ []) asks.Refused (asks.Listing p dir)
+askedBy (family.Profile p) (directed.Refused n) count = asks.Refused n
+askedBy (family.Refused n) named count = asks.Refused n
 
--- "The listing program reads standard input: profile letter A or S, direction letter C or R, then the capture."; "a missing letter is 12"
+-- "profile letter A or S, direction letter C or R, then the capture"; "a missing letter is 12"
+abbrev pub asked : List ℕ → Asked
+asked [] = asks.Refused 12
+asked (p ∷ []) = asks.Refused 12
+asked (p ∷ d ∷ capture) = askedBy (profileOf p) (directionOf d) (length capture)
+
+abbrev pub listedAs : Asked → List ℕ → List ℕ
+listedAs (asks.Listing p dir) capture = listing p dir capture
+listedAs (asks.Refused n) capture = refusedText n
+
+-- "The listing program reads standard input": from all of it, all that is printed
 abbrev pub listed : List ℕ → List ℕ
-listed [] = refusedText 12
-listed (p ∷ []) = refusedText 12
-listed (p ∷ d ∷ capture) = listedBy (profileOf p) (directionOf d) capture
+listed input = listedAs (asked input) (drop 2 input)

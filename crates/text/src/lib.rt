@@ -1,2 +1,5 @@
-// Text for people: numbers as they are printed, written into a lent buffer.
+// Text for people: numbers and the listing of a capture, written into a lent buffer.
+mod event;
+pub mod listing;
 pub mod number;
+mod put;

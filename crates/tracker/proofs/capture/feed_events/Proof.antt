@@ -7,7 +7,8 @@ use Rattle.frame.specs.Capture.{eventsFrom}
 use Rattle.frame.specs.declared.direction.Direction.the-variants.{Answer}
 use Rattle.tracker.specs.Feed.{fedAll}
 use Rattle.tracker.specs.Capture.{broughtAll, broughtBy}
-use Rattle.tracker.proofs.Captures.{leads, feeds-on, feeds-end}
+use Rattle.frame.proofs.Leads.{leads}
+use Rattle.tracker.proofs.Captures.{feeds-on, feeds-end}
 use borrow.Author.Needs.{needs}
 use Rattle.tracker.proofs.capture.feed_events.Statement.{statement}
 use Rattle.tracker.proofs.capture.feed_events.Tie as tie
@@ -46,7 +47,7 @@ add-at c =
     let g = c .before .before .before .before .before .before .before .before .args in
     let told = c .before .before .before .found .given in
     let first = sym (told .1) ∙ c .before .before .before .before .before .next-event .ensures in
-    let w = leads (g .capture .now) (l .at) (told .0 .0) first .within in
+    let w = leads Answer (g .capture .now) (l .at) (told .0 .0) first .within in
     omega arith
 
 loop-less : tie.Need-loop-less Inv-loop μ-loop
@@ -55,7 +56,7 @@ loop-less c =
     let g = c .before .before .before .before .before .before .before .before .args in
     let told = c .before .before .before .found .given in
     let first = sym (told .1) ∙ c .before .before .before .before .before .next-event .ensures in
-    let w = leads (g .capture .now) (l .at) (told .0 .0) first .within in
+    let w = leads Answer (g .capture .now) (l .at) (told .0 .0) first .within in
     omega arith
 
 loop-again : tie.Need-loop-again Inv-loop μ-loop
@@ -64,7 +65,7 @@ loop-again c =
     let g = c .before .before .before .before .before .before .before .before .args in
     let told = c .before .before .before .found .given in
     let first = sym (told .1) ∙ c .before .before .before .before .before .next-event .ensures in
-    let w = leads (g .capture .now) (l .at) (told .0 .0) first .within in
+    let w = leads Answer (g .capture .now) (l .at) (told .0 .0) first .within in
     (w .inside, l .inv .1 ∙ feeds-on (g .capture .now) (l .at) (l .next) (told .0 .0) first ∙ rw (← c .before .feed-event .ensures))
 
 pub feed-events-spec : {M : Type 1} → statement M

@@ -1,8 +1,8 @@
--- `text::number::places_of` meets its contract.
+-- `text::put::places_of` meets its contract.
 use borrow.Author.Tests.{lt-ltb, le-ltb}
 use borrow.Author.Needs.{needs}
-use Rattle.text.proofs.number.places_of.Statement.{statement}
-use Rattle.text.proofs.number.places_of.Tie as tie
+use Rattle.text.proofs.put.places_of.Statement.{statement}
+use Rattle.text.proofs.put.places_of.Tie as tie
 
 returns : tie.Need-returns
 returns c = search (needs, lt-ltb)

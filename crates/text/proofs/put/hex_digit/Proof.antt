@@ -1,8 +1,8 @@
--- `text::number::hex_digit` meets its contract.
+-- `text::put::hex_digit` meets its contract.
 use borrow.Author.Tests.{lt-ltb, le-ltb}
 use borrow.Author.Needs.{needs}
-use Rattle.text.proofs.number.hex_digit.Statement.{statement}
-use Rattle.text.proofs.number.hex_digit.Tie as tie
+use Rattle.text.proofs.put.hex_digit.Statement.{statement}
+use Rattle.text.proofs.put.hex_digit.Tie as tie
 
 add-result : tie.Need-add-result
 add-result c = search needs

@@ -1,4 +1,4 @@
--- `text::number::put_digits` meets its contract.
+-- `text::put::put_digits` meets its contract.
 use mathlib.Core.Path.{_≡_, refl, sym, ap, _∙_}
 use mathlib.Core.List.{List, [], _∷_, _++_, append-nil}
 use Prim.Native.Nat.{ℕ, _+_, _-_, _%_, _≤_, _<_}
@@ -8,8 +8,8 @@ use Rattle.text.specs.Number.{digit}
 use Rattle.text.specs.Computed.{lastDigits}
 use Rattle.text.proofs.Digits.{digits-count, digit-before, set-before}
 use borrow.Author.Needs.{needs}
-use Rattle.text.proofs.number.put_digits.Statement.{statement}
-use Rattle.text.proofs.number.put_digits.Tie as tie
+use Rattle.text.proofs.put.put_digits.Statement.{statement}
+use Rattle.text.proofs.put.put_digits.Tie as tie
 
 abbrev Inv-loop : tie.InvT-loop
 Inv-loop tail₀ number count i₀ rest₀ tail i rest =

@@ -1,0 +1,48 @@
+-- What an input asks for, by its length and its letters.
+use mathlib.Core.Path.{_≡_, refl, ap}
+use mathlib.Core.Bool.{Bool, true, false}
+use mathlib.Core.List.{List, [], _∷_}
+use Prim.Native.Nat.{ℕ, _-_, _≤_, _<_}
+use native.Mathlib.Omega.{arith}
+use borrow.Author.Tests.{ltb-false}
+use lib.Dec.{ltb}
+use lib.ListN.{length, getD}
+use Rattle.frame.specs.Capture.{captureLimit}
+use Rattle.frame.specs.Letter.{directionOf}
+use Rattle.frame.specs.declared.direction.Direction.{Direction}
+use Rattle.frame.specs.declared.direction.Named as direction
+use Rattle.frame.specs.declared.direction.Named.the-variants as directed
+use Rattle.row.specs.Profile.{profileOf}
+use Rattle.row.specs.declared.profile.Profile.{Profile}
+use Rattle.row.specs.declared.profile.Named as profile
+use Rattle.row.specs.declared.profile.Named.the-variants as family
+use Rattle.text.specs.Listing.{askedBy, asked}
+use Rattle.text.specs.declared.listing.Asked.the-variants as asks
+
+pub asked-short : (input : List ℕ) → length input < 2 → asks.Refused 12 ≡ asked input
+asked-short [] h = refl
+asked-short (p ∷ []) h = refl
+asked-short (p ∷ d ∷ capture) h = absurd (omega arith)
+
+pub asked-letters : (input : List ℕ) → 2 ≤ length input
+    → askedBy (profileOf (getD input 0 0)) (directionOf (getD input 1 0)) (length input - 2) ≡ asked input
+asked-letters [] h = absurd (omega arith)
+asked-letters (p ∷ []) h = absurd (omega arith)
+asked-letters (p ∷ d ∷ capture) h =
+    let rest : length (p ∷ d ∷ capture) - 2 ≡ length capture = omega arith in
+    ap (λ (n : ℕ). askedBy (profileOf p) (directionOf d) n) rest
+
+small-by : (p : profile.Named) (d : direction.Named) (n : ℕ) (q : Profile) (dir : Direction) → askedBy p d n ≡ asks.Listing q dir → n ≤ captureLimit
+small-by (family.Profile p) (directed.Direction d) n q dir e = go (ltb captureLimit n) refl
+  where
+    go : (t : Bool) → ltb captureLimit n ≡ t → n ≤ captureLimit
+    go true f = let z : _≡_ {A = ℕ} 0 1 = cc in absurd (omega arith)
+    go false f = ltb-false captureLimit n f
+small-by (family.Profile p) (directed.Refused k) n q dir e = let z : _≡_ {A = ℕ} 0 1 = cc in absurd (omega arith)
+small-by (family.Refused k) d n q dir e = let z : _≡_ {A = ℕ} 0 1 = cc in absurd (omega arith)
+
+-- a listing is of a capture behind two letters, of at most 60,000 bytes
+pub asked-small : (input : List ℕ) (p : Profile) (dir : Direction) → asked input ≡ asks.Listing p dir → (2 ≤ length input) × (length input - 2 ≤ captureLimit)
+asked-small [] p dir e = let z : _≡_ {A = ℕ} 0 1 = cc in absurd (omega arith)
+asked-small (a ∷ []) p dir e = let z : _≡_ {A = ℕ} 0 1 = cc in absurd (omega arith)
+asked-small (a ∷ b ∷ capture) p dir e = let small = small-by (profileOf a) (directionOf b) (length capture) p dir e in (omega arith, omega arith)

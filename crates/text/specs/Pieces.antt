@@ -1,0 +1,87 @@
+-- The listing in pieces of bounded size: as many rows as there is room for, and the place where the next piece goes on.
+use Prim.Native.Nat.{ℕ, zero, suc, _+_, _-_}
+use mathlib.Core.Bool.{cond}
+use mathlib.Core.List.{List, [], _∷_, _++_}
+use lib.Dec.{ltb}
+use lib.ListN.{length, drop}
+use Rattle.frame.specs.Refusal.{Line, line, ruled}
+use Rattle.frame.specs.Raw.{placed}
+use Rattle.frame.specs.Capture.{totalsOf, eventsFrom}
+use Rattle.frame.specs.declared.direction.Direction.{Direction}
+use Rattle.frame.specs.declared.capture.Event.{Event}
+use Rattle.row.specs.declared.profile.Profile.{Profile}
+use Rattle.text.specs.declared.listing.Asked.{Asked}
+use Rattle.text.specs.declared.listing.Asked.the-variants as asks
+use Rattle.text.specs.declared.listing.Place.{Place}
+use Rattle.text.specs.declared.listing.Place.the-variants as place
+use Rattle.text.specs.declared.listing.Piece.{Piece}
+use Rattle.text.specs.declared.listing.Piece.the-variants as piece
+use Rattle.text.specs.Listing.{heading, eventRow, totalRow, refusedText, asked}
+
+-- room for any row
+abbrev pub rowLimit : ℕ
+rowLimit = 64
+
+-- text that is given out, and the place where the listing goes on behind it
+pub record Given : Type 0 where
+  pub text : List ℕ
+  pub next : Place
+
+abbrev pub given : List ℕ → Place → Given
+given text next = record { text = text; next = next }
+
+-- the rows yet to come: an event's row, and then the events behind it; the totals are the last
+unfoldable pub eventSteps : Profile → Direction → List ℕ → List Event → List Given
+eventSteps profile dir capture [] = given (totalRow (length capture) (totalsOf dir capture)) place.End ∷ []
+eventSteps profile dir capture (e ∷ es) =
+    given (eventRow profile dir capture e) (place.Event (e .at + e .length)) ∷ eventSteps profile dir capture es
+
+abbrev pub rowsOf : Profile → Direction → List ℕ → Place → List Given
+rowsOf profile dir capture place.Start = given heading (place.Event 0) ∷ eventSteps profile dir capture (eventsFrom dir capture 0)
+rowsOf profile dir capture (place.Event at) = eventSteps profile dir capture (eventsFrom dir capture at)
+rowsOf profile dir capture place.End = []
+
+abbrev pub refusedRows : ℕ → Place → List Given
+refusedRows n place.Start = given (refusedText n) place.End ∷ []
+refusedRows n (place.Event at) = []
+refusedRows n place.End = []
+
+abbrev pub rowsAs : Asked → List ℕ → Place → List Given
+rowsAs (asks.Listing p dir) capture at = rowsOf p dir capture at
+rowsAs (asks.Refused n) capture at = refusedRows n at
+
+abbrev pub rowsIn : List ℕ → Place → List Given
+rowsIn input at = rowsAs (asked input) (drop 2 input) at
+
+-- as many rows as there is room for
+unfoldable pub filled : ℕ → Place → List Given → Given
+filled room at [] = given [] at
+filled room at (g ∷ gs) =
+    cond (ltb room rowLimit) (given [] at) (given (g .text ++ filled (room - length (g .text)) (g .next) gs .text) (filled (room - length (g .text)) (g .next) gs .next))
+
+-- the next piece of an input's listing
+abbrev pub pieceOf : List ℕ → Place → ℕ → Given
+pieceOf input at room = filled room at (rowsIn input at)
+
+-- 9: "the lent buffer has too few bytes"
+abbrev pub noRow : List ℕ → Line
+noRow buf = line 9 (ltb (length buf) rowLimit)
+
+abbrev pub textAs : Given → Piece
+textAs g = piece.Text (length (g .text)) (g .next)
+
+abbrev pub pieceAnswered : List ℕ → Place → List ℕ → Piece
+pieceAnswered input at buf = ruled (noRow buf ∷ []) piece.Refused (textAs (pieceOf input at (length buf)))
+
+abbrev pub pieceLeft : List ℕ → Place → List ℕ → List ℕ
+pieceLeft input at buf = ruled (noRow buf ∷ []) (λ n. buf) (placed buf 0 (pieceOf input at (length buf) .text))
+
+-- all that is yet to come
+unfoldable pub texts : List Given → List ℕ
+texts [] = []
+texts (g ∷ gs) = g .text ++ texts gs
+
+-- what a number of pieces give out, one after another, each into a buffer of the same size
+unfoldable pub pieces : ℕ → ℕ → List ℕ → Place → List ℕ
+pieces zero room input at = []
+pieces (suc n) room input at = pieceOf input at room .text ++ pieces n room input (pieceOf input at room .next)
