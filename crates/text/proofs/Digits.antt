@@ -8,7 +8,7 @@ use borrow.Author.Tests.{lt-ltb, le-ltb, ltb-true, ltb-false}
 use lib.Dec.{ltb}
 use lib.ListN.{length, take, getD, set, length-append}
 use lib.Seq.{take-suc, set-at, length-take-le}
-use Rattle.text.specs.Number.{digit, decimalIn, decimal}
+use Rattle.listed.specs.Number.{digit, decimalIn, decimal}
 use Rattle.text.specs.Computed.{places, lastDigits}
 
 pub digits-count : (k n : ℕ) → length (lastDigits k n) ≡ k

@@ -1,9 +1,7 @@
 -- Proofs about text.
 pub mod Digits
-pub mod Examples
 pub mod Puts
 pub mod Sizes
-pub mod Asked
 pub mod Counts
 pub mod Pieces
 pub mod Whole

@@ -5,7 +5,11 @@ use Prim.Native.Nat.{ℕ}
 use Rattle.frame.specs.OneAnswer.{OneAnswer}
 use Rattle.frame.specs.declared.raw.Written.{Written}
 use Rattle.frame.proofs.OneAnswer.{one-lent}
-use Rattle.text.specs.Number.{decimal, hexByte, textAnswered, textLeft}
+use Rattle.listed.specs.Number.{decimal, hexByte}
+use Rattle.text.specs.Text.{textAnswered, textLeft}
+use Rattle.text.specs.Pieces.{pieceAnswered, pieceLeft}
+use Rattle.text.specs.declared.listing.Place.{Place}
+use Rattle.text.specs.declared.listing.Piece.{Piece}
 
 pub write-decimal-one : (buf : List ℕ) (at number : ℕ)
     → OneAnswer (λ (x : Written × List ℕ). (x .0 ≡ textAnswered buf at (decimal number)) × (x .1 ≡ textLeft buf at (decimal number)))
@@ -14,3 +18,7 @@ write-decimal-one buf at number = one-lent (textAnswered buf at (decimal number)
 pub write-hex-one : (buf : List ℕ) (at byte : ℕ)
     → OneAnswer (λ (x : Written × List ℕ). (x .0 ≡ textAnswered buf at (hexByte byte)) × (x .1 ≡ textLeft buf at (hexByte byte)))
 write-hex-one buf at byte = one-lent (textAnswered buf at (hexByte byte)) (textLeft buf at (hexByte byte))
+
+pub list-piece-one : (input : List ℕ) (at : Place) (buf : List ℕ)
+    → OneAnswer (λ (x : Piece × List ℕ). (x .0 ≡ pieceAnswered input at buf) × (x .1 ≡ pieceLeft input at buf))
+list-piece-one input at buf = one-lent (pieceAnswered input at buf) (pieceLeft input at buf)

@@ -13,7 +13,7 @@ use Rattle.frame.specs.declared.direction.Direction.{Direction}
 use Rattle.frame.specs.declared.capture.Event.{Event}
 use Rattle.frame.proofs.Leads.{leads}
 use Rattle.row.specs.declared.profile.Profile.{Profile}
-use Rattle.text.specs.Listing.{eventRow}
+use Rattle.listed.specs.Listing.{eventRow}
 use Rattle.text.specs.Pieces.{rowLimit, Given, given, eventSteps, rowsOf, filled, textAs}
 use Rattle.text.specs.Computed.{Put, firstText, firstNext, isEnd}
 use Rattle.text.specs.declared.listing.Place.{Place}

@@ -6,7 +6,7 @@ use native.Mathlib.Omega.{arith}
 use lib.ListN.{length, take, drop, length-append, take-append-drop}
 use lib.Seq.{length-take-le, take-at, drop-at, drop-drop}
 use Rattle.frame.specs.Raw.{placed}
-use Rattle.text.specs.Listing.{row}
+use Rattle.listed.specs.Listing.{row}
 use Rattle.text.specs.Computed.{Put, behind}
 
 module _ (buf : List ℕ) (at : ℕ) (first second : List ℕ) (within : at ≤ length buf) where

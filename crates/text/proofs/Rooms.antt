@@ -8,7 +8,7 @@ use Rattle.frame.specs.Raw.{placed}
 use Rattle.frame.specs.declared.raw.Written.{Written}
 use Rattle.frame.specs.declared.raw.Written.the-variants.{Bytes, Refused}
 use Rattle.frame.proofs.Room.{no-place, no-room, has-room}
-use Rattle.text.specs.Number.{textAnswered, textLeft}
+use Rattle.text.specs.Text.{textAnswered, textLeft}
 
 module _ (buf : List ℕ) (at : ℕ) (bytes : List ℕ) (n : ℕ) (long : length bytes ≡ n) where
   abbrev Gives : Written → List ℕ → Type 0

@@ -11,9 +11,9 @@ use mir.Syntax.{w16, w32}
 use mir.Val.{Fits, SFits}
 use mir.Facts.{sfits-widen}
 use borrow.Author.Tests.{ltb-true}
-use Rattle.text.specs.Letters.{letters}
-use Rattle.text.specs.Number.{decimal}
-use Rattle.text.specs.Listing.{integer}
+use Rattle.listed.specs.Letters.{letters}
+use Rattle.listed.specs.Number.{decimal}
+use Rattle.listed.specs.Listing.{integer}
 
 pub wide : (z : ℤ) → SFits w16 z → SFits w32 z
 wide z fits = sfits-widen tt fits

@@ -10,14 +10,15 @@ use Rattle.frame.specs.Capture.{totalsOf, eventsFrom}
 use Rattle.frame.specs.declared.direction.Direction.{Direction}
 use Rattle.frame.specs.declared.capture.Event.{Event}
 use Rattle.row.specs.declared.profile.Profile.{Profile}
-use Rattle.text.specs.Listing.{heading, eventRow, eventRows, totalRow, refusedText, asked, listedAs, listed}
-use Rattle.text.specs.Pieces.{rowLimit, Given, given, eventSteps, rowsOf, refusedRows, rowsAs, rowsIn, filled, pieceOf, pieceLeft, texts, pieces}
+use Rattle.listed.specs.Listing.{heading, eventRow, eventRows, totalRow, refusedText, asked, listedAs, listed}
+use Rattle.text.specs.Pieces.{rowLimit, Given, given, eventSteps, rowsOf, refusedRows, rowsAs, rowsIn, filled, pieceOf, textAs, pieceAnswered, pieceLeft, texts, pieces}
 use Rattle.text.specs.PiecesPromise.{PiecesPromise}
 use Rattle.text.specs.Computed.{firstText, firstNext}
-use Rattle.text.specs.declared.listing.Asked.{Asked}
-use Rattle.text.specs.declared.listing.Asked.the-variants as asks
+use Rattle.listed.specs.declared.asked.Asked.{Asked}
+use Rattle.listed.specs.declared.asked.Asked.the-variants as asks
 use Rattle.text.specs.declared.listing.Place.{Place}
 use Rattle.text.specs.declared.listing.Place.the-variants as place
+use Rattle.text.specs.declared.listing.Piece.the-variants as piece
 use Rattle.text.proofs.Pieces.{filled-on, filled-cases, rows-on}
 
 -- the rows behind a row are those of the place that it leads to
@@ -149,3 +150,12 @@ fewer-rows input at room h some = go (rowsIn input at) refl
     go : (gs : List Given) → rowsIn input at ≡ gs → length (rowsIn input (pieceOf input at room .next)) < length (rowsIn input at)
     go [] e = absurd (no-row input at room e some)
     go (g ∷ gs) e = rw e (let less = rows-less (rowsIn input) (chain (asked input) (drop 2 input)) room at g gs h e in omega (arith, less))
+
+-- the same of what `list_piece` answers
+pub answered-fewer : (input : List ℕ) (at : Place) (buf : List ℕ) (count : ℕ) (next : Place) → rowLimit ≤ length buf
+    → piece.Text count next ≡ pieceAnswered input at buf → 0 < count → length (rowsIn input next) < length (rowsIn input at)
+answered-fewer input at buf count next h e some =
+    let told : piece.Text count next ≡ textAs (pieceOf input at (length buf)) = e ∙ rw (le-ltb (length buf) rowLimit h) in
+    let counts : count ≡ length (pieceOf input at (length buf) .text) = cc in
+    let goes : next ≡ pieceOf input at (length buf) .next = cc in
+    rw goes (fewer-rows input at (length buf) h (omega (arith, some, counts)))

@@ -1,7 +1,5 @@
--- What must be believed: numbers as text, letters, and the listing. `Computed` need not be believed.
-pub mod Number
-pub mod Letters
-pub mod Listing
+-- What must be believed: text in a lent buffer, the listing in pieces, and what is promised of them. `Computed` need not be believed.
+pub mod Text
 pub mod Pieces
 pub mod PiecesPromise
 pub mod Computed

@@ -10,13 +10,13 @@ use Rattle.frame.specs.Capture.{totalsOf, eventsFrom}
 use Rattle.frame.specs.declared.direction.Direction.{Direction}
 use Rattle.frame.specs.declared.capture.Event.{Event}
 use Rattle.row.specs.declared.profile.Profile.{Profile}
-use Rattle.text.specs.declared.listing.Asked.{Asked}
-use Rattle.text.specs.declared.listing.Asked.the-variants as asks
+use Rattle.listed.specs.declared.asked.Asked.{Asked}
+use Rattle.listed.specs.declared.asked.Asked.the-variants as asks
 use Rattle.text.specs.declared.listing.Place.{Place}
 use Rattle.text.specs.declared.listing.Place.the-variants as place
 use Rattle.text.specs.declared.listing.Piece.{Piece}
 use Rattle.text.specs.declared.listing.Piece.the-variants as piece
-use Rattle.text.specs.Listing.{heading, eventRow, totalRow, refusedText, asked}
+use Rattle.listed.specs.Listing.{heading, eventRow, totalRow, refusedText, asked}
 
 -- room for any row
 abbrev pub rowLimit : ℕ

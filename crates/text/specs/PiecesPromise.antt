@@ -3,7 +3,7 @@ use Prim.Native.Nat.{ℕ, _≤_}
 use mathlib.Core.Path.{_≡_}
 use mathlib.Core.List.{List, [], _++_}
 use lib.ListN.{length, take}
-use Rattle.text.specs.Listing.{listed}
+use Rattle.listed.specs.Listing.{listed}
 use Rattle.text.specs.Pieces.{rowLimit, rowsIn, pieceOf, pieceLeft, texts, pieces}
 use Rattle.text.specs.declared.listing.Place.{Place}
 use Rattle.text.specs.declared.listing.Place.the-variants.{Start}

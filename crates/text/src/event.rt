@@ -20,10 +20,10 @@ ghost use lib.ListN.{length};
 ghost use Rattle.message.specs.declared.content.Content.the-variants as content;
 ghost use Rattle.message.specs.declared.read.FrameReading.the-variants as reading;
 ghost use Rattle.message.specs.declared.read.Message.the-variants as message;
-ghost use Rattle.text.specs.Letters.{letters};
-ghost use Rattle.text.specs.Number.{decimal, hexByte};
-ghost use Rattle.text.specs.Listing.{valueText, readText, eventText, eventRow};
-ghost use Rattle.text.specs.Computed.{Put, behind};
+ghost use Rattle.listed.specs.Letters.{letters};
+ghost use Rattle.listed.specs.Number.{decimal, hexByte};
+ghost use Rattle.listed.specs.Listing.{valueText, readText, eventText, eventRow};
+ghost use Rattle.text.specs.Computed.{Put, behind, saidBehind};
 
 // Where it is, how long it is, and what it is.
 pub(crate) fn put_event(
@@ -97,20 +97,20 @@ fn put_message(message: Message, buf: &mut [u8], at: usize) -> usize
     ensures { λ r. ⌜ Put 27 (now (buf .entry)) at (behind (readText (reading.Message message))) (now (buf .exit)) r ⌝ }
 {
     match message {
-        Message::Command(said) => {
-            let next = put_named(b" frame ", said.zone, said.command, buf, at);
-            let value = put_bytes(buf, next, b" - ");
-            let content = said.content;
-            put_last(content, buf, value)
-        }
-        Message::Status(said) => {
-            let next = put_named(b" frame ", said.zone, said.command, buf, at);
-            let value = put_bytes(buf, next, b" 00 ");
-            let content = said.content;
-            put_last(content, buf, value)
-        }
+        Message::Command(said) => put_said(said, b" - ", buf, at),
+        Message::Status(said) => put_said(said, b" 00 ", buf, at),
         Message::Denied(denial) => put_denied(denial, buf, at),
     }
+}
+
+fn put_said(said: Said, answer: &[u8], buf: &mut [u8], at: usize) -> usize
+    requires { ⌜ (length (now answer) ≤ 4) × (at + 27 ≤ length (now buf)) ⌝ }
+    ensures { λ r. ⌜ Put 27 (now (buf .entry)) at (saidBehind (now (answer .entry)) said) (now (buf .exit)) r ⌝ }
+{
+    let next = put_named(b" frame ", said.zone, said.command, buf, at);
+    let value = put_bytes(buf, next, answer);
+    let content = said.content;
+    put_last(content, buf, value)
 }
 
 fn put_denied(denial: Denial, buf: &mut [u8], at: usize) -> usize

@@ -2,26 +2,23 @@
 use crate::event::put_event;
 use crate::put::put_bytes;
 use crate::put::put_number;
-use frame::capture::CAPTURE_LIMIT;
 use frame::capture::Counted;
 use frame::capture::Next;
 use frame::capture::Totals;
 use frame::capture::capture_totals;
 use frame::capture::next_event;
 use frame::direction::Direction;
-use frame::direction::direction_of;
+use listed::asked::Asked;
+use listed::asked::what_is_asked;
 use row::profile::Profile;
-use row::profile::profile_of;
 ghost use mathlib.Core.Path.{_≡_};
 ghost use mathlib.Core.List.{_++_};
 ghost use Prim.Native.Nat.{_+_, _^_, _≤_, _<_};
 ghost use lib.ListN.{length};
 ghost use Rattle.frame.specs.Capture.{captureLimit, eventsFrom, totalsOf};
-ghost use Rattle.frame.specs.Letter.{directionOf};
 ghost use Rattle.frame.specs.Raw.{placed};
-ghost use Rattle.row.specs.declared.profile.Named.the-variants as family;
-ghost use Rattle.text.specs.Number.{decimal};
-ghost use Rattle.text.specs.Listing.{askedBy, asked, totalRow};
+ghost use Rattle.listed.specs.Number.{decimal};
+ghost use Rattle.listed.specs.Listing.{totalRow};
 ghost use Rattle.text.specs.Pieces.{rowLimit, eventSteps, rowsOf, refusedRows, filled, textAs, pieceAnswered, pieceLeft};
 ghost use Rattle.text.specs.Computed.{Put, firstText, firstNext, isEnd};
 ghost use Rattle.text.specs.declared.listing.Place.the-variants as place;
@@ -39,12 +36,6 @@ pub enum Place {
 // A piece of the listing: how many bytes it has and where the next goes on, or the number of the refusal.
 pub enum Piece {
     Text(usize, Place),
-    Refused(u8),
-}
-
-// What an input asks for: the listing of its capture, or a refusal.
-pub enum Asked {
-    Listing(Profile, Direction),
     Refused(u8),
 }
 
@@ -68,33 +59,6 @@ pub fn list_piece(input: &[u8], place: Place, buf: &mut [u8]) -> Piece
             list_rows(profile, direction, &input[2..], place, buf)
         }
         Asked::Refused(number) => list_refusal(number, place, buf),
-    }
-}
-
-// The two letters, and a capture of at most 60,000 bytes behind them.
-fn what_is_asked(input: &[u8]) -> Asked
-    ensures { λ r. ⌜ r ≡ asked (now (input .entry)) ⌝ }
-{
-    if input.len() < 2 {
-        return Asked::Refused(12);
-    }
-    match profile_of(input[0]) {
-        row::profile::Named::Profile(profile) => asked_of(profile, input[1], input.len() - 2),
-        row::profile::Named::Refused(number) => Asked::Refused(number),
-    }
-}
-
-fn asked_of(profile: Profile, letter: u8, count: usize) -> Asked
-    ensures { λ r. ⌜ r ≡ askedBy (family.Profile profile) (directionOf letter) count ⌝ }
-{
-    match direction_of(letter) {
-        frame::direction::Named::Direction(direction) => {
-            if count > CAPTURE_LIMIT {
-                return Asked::Refused(11);
-            }
-            Asked::Listing(profile, direction)
-        }
-        frame::direction::Named::Refused(number) => Asked::Refused(number),
     }
 }
 

@@ -3,7 +3,8 @@ use crate::put::put_hex;
 use crate::put::put_places;
 use frame::raw::Written;
 ghost use mathlib.Core.Path.{_≡_};
-ghost use Rattle.text.specs.Number.{decimal, hexByte, textAnswered, textLeft};
+ghost use Rattle.listed.specs.Number.{decimal, hexByte};
+ghost use Rattle.text.specs.Text.{textAnswered, textLeft};
 
 // Writes a number's decimal digits into the rest of the buffer from a place; 9 where there is no room, and then
 // the buffer is as it was.

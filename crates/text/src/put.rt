@@ -4,8 +4,8 @@ ghost use Prim.Native.Nat.{_+_, _≤_, _<_};
 ghost use lib.IntN.{natAbs};
 ghost use lib.ListN.{length};
 ghost use Rattle.frame.specs.Raw.{placed};
-ghost use Rattle.text.specs.Number.{decimal, hexDigit, hexByte};
-ghost use Rattle.text.specs.Listing.{integer};
+ghost use Rattle.listed.specs.Number.{decimal, hexDigit, hexByte};
+ghost use Rattle.listed.specs.Listing.{integer};
 ghost use Rattle.text.specs.Computed.{places, lastDigits, Put};
 
 pub(crate) fn put_bytes(buf: &mut [u8], at: usize, text: &[u8]) -> usize

@@ -1,8 +1,8 @@
 -- `text::event::put_denied` meets its contract.
 use mathlib.Core.List.{_++_}
-use Rattle.text.specs.Letters.{letters}
-use Rattle.text.specs.Listing.{row}
-use Rattle.text.specs.Number.{decimal, hexByte}
+use Rattle.listed.specs.Letters.{letters}
+use Rattle.listed.specs.Listing.{row}
+use Rattle.listed.specs.Number.{decimal, hexByte}
 use Rattle.text.proofs.Puts.{both, both-behind}
 use borrow.Author.Needs.{needs}
 use Rattle.text.proofs.event.put_denied.Statement.{statement}

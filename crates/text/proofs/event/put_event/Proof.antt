@@ -1,9 +1,9 @@
 -- `text::event::put_event` meets its contract.
 use mathlib.Core.Path.{sym}
 use Rattle.frame.specs.Fields.{bytesAt}
-use Rattle.text.specs.Letters.{letters}
-use Rattle.text.specs.Number.{decimal}
-use Rattle.text.specs.Listing.{row, eventText}
+use Rattle.listed.specs.Letters.{letters}
+use Rattle.listed.specs.Number.{decimal}
+use Rattle.listed.specs.Listing.{row, eventText}
 use Rattle.text.proofs.Puts.{both, said, row-behind}
 use borrow.Author.Needs.{needs}
 use Rattle.text.proofs.event.put_event.Statement.{statement}

@@ -1,6 +1,6 @@
 -- `text::event::put_input` meets its contract.
-use Rattle.text.specs.Letters.{letters}
-use Rattle.text.specs.Number.{decimalIn}
+use Rattle.listed.specs.Letters.{letters}
+use Rattle.listed.specs.Number.{decimalIn}
 use Rattle.text.proofs.Puts.{both}
 use borrow.Author.Needs.{needs}
 use Rattle.text.proofs.event.put_input.Statement.{statement}

@@ -1,5 +1,5 @@
 -- `text::event::put_named` meets its contract.
-use Rattle.text.specs.Letters.{letters}
+use Rattle.listed.specs.Letters.{letters}
 use Rattle.text.proofs.Puts.{both}
 use borrow.Author.Needs.{needs}
 use Rattle.text.proofs.event.put_named.Statement.{statement}

@@ -1,6 +1,6 @@
 -- `text::event::put_unread` meets its contract.
-use Rattle.text.specs.Letters.{letters}
-use Rattle.text.specs.Listing.{row}
+use Rattle.listed.specs.Letters.{letters}
+use Rattle.listed.specs.Listing.{row}
 use Rattle.text.proofs.Puts.{both}
 use borrow.Author.Needs.{needs}
 use Rattle.text.proofs.event.put_unread.Statement.{statement}

@@ -3,7 +3,7 @@ use native.Mathlib.Omega.{arith}
 use mir.Syntax.{w16}
 use mir.Val.{SFits}
 use mir.Facts.{toZ-ofZ}
-use Rattle.text.specs.Letters.{letters}
+use Rattle.listed.specs.Letters.{letters}
 use Rattle.text.proofs.Puts.{wider}
 use borrow.Author.Needs.{needs}
 use Rattle.text.proofs.event.put_value.Statement.{statement}

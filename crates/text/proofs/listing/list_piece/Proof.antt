@@ -6,7 +6,7 @@ use native.Mathlib.Omega.{arith}
 use borrow.Author.Tests.{lt-ltb, le-ltb}
 use lib.ListN.{length, take, drop, length-drop}
 use lib.Seq.{take-all}
-use Rattle.text.proofs.Asked.{asked-small}
+use Rattle.listed.proofs.Asks.{asked-small}
 use borrow.Author.Needs.{needs}
 use Rattle.text.proofs.listing.list_piece.Statement.{statement}
 use Rattle.text.proofs.listing.list_piece.Tie as tie

@@ -1,8 +1,8 @@
 -- `text::listing::list_refusal` meets its contract.
 use mathlib.Core.Path.{refl}
-use Rattle.text.specs.Letters.{letters}
-use Rattle.text.specs.Listing.{row}
-use Rattle.text.specs.Listing.{refusedText}
+use Rattle.listed.specs.Letters.{letters}
+use Rattle.listed.specs.Listing.{row}
+use Rattle.listed.specs.Listing.{refusedText}
 use Rattle.text.specs.Pieces.{filled}
 use Rattle.text.specs.declared.listing.Place.the-variants as place
 use Rattle.text.proofs.Puts.{both}

@@ -1,7 +1,7 @@
 -- `text::listing::put_next` meets its contract.
 use mathlib.Core.Path.{refl}
 use native.Mathlib.Omega.{arith}
-use Rattle.text.specs.Letters.{letters}
+use Rattle.listed.specs.Letters.{letters}
 use Rattle.text.proofs.Puts.{wider, nothing}
 use borrow.Author.Needs.{needs}
 use Rattle.text.proofs.listing.put_next.Statement.{statement}

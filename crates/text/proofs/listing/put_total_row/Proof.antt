@@ -1,7 +1,7 @@
 -- `text::listing::put_total_row` meets its contract.
 use native.Mathlib.Omega.{arith}
-use Rattle.text.specs.Letters.{letters}
-use Rattle.text.specs.Listing.{row}
+use Rattle.listed.specs.Letters.{letters}
+use Rattle.listed.specs.Listing.{row}
 use Rattle.text.proofs.Puts.{both}
 use borrow.Author.Needs.{needs}
 use Rattle.text.proofs.listing.put_total_row.Statement.{statement}

@@ -3,7 +3,7 @@ use mathlib.Core.Path.{sym, ap, _∙_}
 use native.Mathlib.Omega.{arith}
 use Rattle.frame.specs.declared.capture.Totals.{Totals}
 use lib.ListN.{length}
-use Rattle.text.specs.Listing.{totalRow}
+use Rattle.listed.specs.Listing.{totalRow}
 use Rattle.text.proofs.Counts.{counts-these, none-refused, totals-small}
 use Rattle.text.proofs.Puts.{wider, said}
 use borrow.Author.Needs.{needs}

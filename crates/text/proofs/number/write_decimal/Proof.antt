@@ -1,7 +1,7 @@
 -- `text::number::write_decimal` meets its contract.
 use Prim.Native.Nat.{_-_, _≤_, _<_}
 use lib.ListN.{length}
-use Rattle.text.specs.Number.{decimal}
+use Rattle.listed.specs.Number.{decimal}
 use Rattle.text.specs.Computed.{places}
 use Rattle.text.proofs.Digits.{decimal-long}
 use Rattle.text.proofs.Rooms.{past-end, too-few, enough}

@@ -2,7 +2,7 @@
 use mathlib.Core.Path.{refl}
 use Prim.Native.Nat.{_-_, _≤_}
 use lib.ListN.{length}
-use Rattle.text.specs.Number.{hexByte}
+use Rattle.listed.specs.Number.{hexByte}
 use Rattle.text.proofs.Rooms.{past-end, too-few, enough}
 use borrow.Author.Needs.{needs}
 use Rattle.text.proofs.number.write_hex.Statement.{statement}

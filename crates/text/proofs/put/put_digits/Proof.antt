@@ -4,7 +4,7 @@ use mathlib.Core.List.{List, [], _∷_, _++_, append-nil}
 use Prim.Native.Nat.{ℕ, _+_, _-_, _%_, _≤_, _<_}
 use native.Mathlib.Omega.{arith}
 use lib.ListN.{length, take, drop, length-set, take-append-drop}
-use Rattle.text.specs.Number.{digit}
+use Rattle.listed.specs.Number.{digit}
 use Rattle.text.specs.Computed.{lastDigits}
 use Rattle.text.proofs.Digits.{digits-count, digit-before, set-before}
 use borrow.Author.Needs.{needs}

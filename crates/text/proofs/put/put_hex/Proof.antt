@@ -6,7 +6,7 @@ use native.Mathlib.Omega.{arith}
 use native.Mathlib.Numerals.{add-one}
 use lib.ListN.{length, take, drop, set, length-set}
 use lib.Seq.{sets-eq}
-use Rattle.text.specs.Number.{hexByte}
+use Rattle.listed.specs.Number.{hexByte}
 use borrow.Author.Needs.{needs}
 use Rattle.text.proofs.put.put_hex.Statement.{statement}
 use Rattle.text.proofs.put.put_hex.Tie as tie

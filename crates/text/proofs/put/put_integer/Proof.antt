@@ -4,8 +4,8 @@ use mathlib.Core.List.{_++_}
 use Prim.Native.Nat.{ℕ}
 use native.Mathlib.Omega.{arith}
 use mir.Facts.{toZ-ofZ}
-use Rattle.text.specs.Letters.{letters}
-use Rattle.text.specs.Number.{decimal}
+use Rattle.listed.specs.Letters.{letters}
+use Rattle.listed.specs.Number.{decimal}
 use Rattle.text.proofs.Sizes.{minus-text, plain-text}
 use Rattle.text.proofs.Puts.{both, said, wider}
 use borrow.Author.Needs.{needs}

@@ -1,9 +1,9 @@
--- `text::listing::what_is_asked` meets its contract.
+-- `listed::asked::what_is_asked` meets its contract.
 use mathlib.Core.Path.{_∙_}
-use Rattle.text.proofs.Asked.{asked-short, asked-letters}
+use Rattle.listed.proofs.Asks.{asked-short, asked-letters}
 use borrow.Author.Needs.{needs}
-use Rattle.text.proofs.listing.what_is_asked.Statement.{statement}
-use Rattle.text.proofs.listing.what_is_asked.Tie as tie
+use Rattle.listed.proofs.asked.what_is_asked.Statement.{statement}
+use Rattle.listed.proofs.asked.what_is_asked.Tie as tie
 
 returns : tie.Need-returns
 returns c = asked-short (c .before .before .args .input .now) (c .if1 .taken)

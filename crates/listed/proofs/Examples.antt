@@ -11,9 +11,9 @@ use Rattle.row.specs.Signed.{numberOf}
 use Rattle.row.specs.Table.{table, firstRow}
 use Rattle.message.specs.Content.{contentOf}
 use Rattle.message.specs.Message.{readOf, frameRead}
-use Rattle.text.specs.Letters.{letters}
-use Rattle.text.specs.Number.{decimalIn}
-use Rattle.text.specs.Listing.{row, eventRows, listed}
+use Rattle.listed.specs.Letters.{letters}
+use Rattle.listed.specs.Number.{decimalIn}
+use Rattle.listed.specs.Listing.{row, eventRows, listed}
 
 -- "For A R .. and 00 21 01 3A 00 01 85 0D 21 01 38 00 01 02 21 it prints, whole:"
 pub worked : listed (0x41 ∷ 0x52 ∷ 0x00 ∷ 0x21 ∷ 0x01 ∷ 0x3A ∷ 0x00 ∷ 0x01 ∷ 0x85 ∷ 0x0D ∷ 0x21 ∷ 0x01 ∷ 0x38 ∷ 0x00 ∷ 0x01 ∷ 0x02 ∷ 0x21 ∷ [])

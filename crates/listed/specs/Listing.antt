@@ -27,10 +27,10 @@ use Rattle.message.specs.declared.content.Content.the-variants.{Request, Up, Do
 use Rattle.message.specs.declared.read.FrameReading.{FrameReading}
 use Rattle.message.specs.declared.read.FrameReading.the-variants as frame
 use Rattle.message.specs.declared.read.Message.the-variants as message
-use Rattle.text.specs.declared.listing.Asked.{Asked}
-use Rattle.text.specs.declared.listing.Asked.the-variants as asks
-use Rattle.text.specs.Letters.{letters}
-use Rattle.text.specs.Number.{decimal, hexByte}
+use Rattle.listed.specs.declared.asked.Asked.{Asked}
+use Rattle.listed.specs.declared.asked.Asked.the-variants as asks
+use Rattle.listed.specs.Letters.{letters}
+use Rattle.listed.specs.Number.{decimal, hexByte}
 
 -- "Numbers are decimal": with a minus sign where they are below zero
 abbrev pub integer : ℤ → List ℕ

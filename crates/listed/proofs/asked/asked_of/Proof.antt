@@ -1,8 +1,8 @@
--- `text::listing::asked_of` meets its contract.
+-- `listed::asked::asked_of` meets its contract.
 use borrow.Author.Tests.{lt-ltb, le-ltb}
 use borrow.Author.Needs.{needs}
-use Rattle.text.proofs.listing.asked_of.Statement.{statement}
-use Rattle.text.proofs.listing.asked_of.Tie as tie
+use Rattle.listed.proofs.asked.asked_of.Statement.{statement}
+use Rattle.listed.proofs.asked.asked_of.Tie as tie
 
 direction-of-requires : tie.Need-direction-of-requires
 direction-of-requires c κs = search needs

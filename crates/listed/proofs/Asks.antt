@@ -16,8 +16,8 @@ use Rattle.row.specs.Profile.{profileOf}
 use Rattle.row.specs.declared.profile.Profile.{Profile}
 use Rattle.row.specs.declared.profile.Named as profile
 use Rattle.row.specs.declared.profile.Named.the-variants as family
-use Rattle.text.specs.Listing.{askedBy, asked}
-use Rattle.text.specs.declared.listing.Asked.the-variants as asks
+use Rattle.listed.specs.Listing.{askedBy, asked}
+use Rattle.listed.specs.declared.asked.Asked.the-variants as asks
 
 pub asked-short : (input : List ℕ) → length input < 2 → asks.Refused 12 ≡ asked input
 asked-short [] h = refl
