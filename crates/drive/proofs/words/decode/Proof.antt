@@ -1,0 +1,124 @@
+-- `drive::words::decode` is safe and ends.
+use Prim.Native.Nat.{_-_, _≤_}
+use mathlib.Core.Path.{_≡_}
+use lib.ListN.{length}
+use borrow.Author.Needs.{needs}
+use Rattle.drive.proofs.words.decode.Statement.{statement}
+use Rattle.drive.proofs.words.decode.Tie as tie
+
+abbrev Inv-loop : tie.InvT-loop
+Inv-loop word space₀ at next₀ i₀ i-end space next i = (i ≤ i-end) × (length space ≡ length space₀)
+
+abbrev μ-loop : tie.MeasureT-loop
+μ-loop word space₀ at next₀ i₀ i-end space next i = i-end - i
+
+slice-aggregate-is : tie.Need-slice-aggregate-is Inv-loop μ-loop
+slice-aggregate-is c = search needs
+
+is-requires : tie.Need-is-requires Inv-loop μ-loop
+is-requires c κs = search needs
+
+returns : tie.Need-returns Inv-loop μ-loop
+returns c = search needs
+
+returns-2 : tie.Need-returns-2 Inv-loop μ-loop
+returns-2 c = search needs
+
+returns-3 : tie.Need-returns-3 Inv-loop μ-loop
+returns-3 c = search needs
+
+loop-holds : tie.Need-loop-holds Inv-loop μ-loop
+loop-holds c = search needs
+
+mul-digit : tie.Need-mul-digit Inv-loop μ-loop
+mul-digit c = search needs
+
+shared-slice-read-digit : tie.Need-shared-slice-read-digit Inv-loop μ-loop
+shared-slice-read-digit c = search needs
+
+digit-requires : tie.Need-digit-requires Inv-loop μ-loop
+digit-requires c κs = search needs
+
+mul-digit-2 : tie.Need-mul-digit-2 Inv-loop μ-loop
+mul-digit-2 c = search needs
+
+add-digit : tie.Need-add-digit Inv-loop μ-loop
+add-digit c = search needs
+
+shared-slice-read-digit-2 : tie.Need-shared-slice-read-digit-2 Inv-loop μ-loop
+shared-slice-read-digit-2 c = search needs
+
+digit-requires-2 : tie.Need-digit-requires-2 Inv-loop μ-loop
+digit-requires-2 c κs = search needs
+
+pair-requires : tie.Need-pair-requires Inv-loop μ-loop
+pair-requires c κs = search needs
+
+same-length : tie.Need-same-length Inv-loop μ-loop
+same-length c = search needs
+
+returns-4 : tie.Need-returns-4 Inv-loop μ-loop
+returns-4 c = search needs
+
+same-length-2 : tie.Need-same-length-2 Inv-loop μ-loop
+same-length-2 c = search needs
+
+returns-5 : tie.Need-returns-5 Inv-loop μ-loop
+returns-5 c = search needs
+
+cast-space : tie.Need-cast-space Inv-loop μ-loop
+cast-space c = search needs
+
+slice-write-space : tie.Need-slice-write-space Inv-loop μ-loop
+slice-write-space c = search needs
+
+add-next : tie.Need-add-next Inv-loop μ-loop
+add-next c = search needs
+
+add-i : tie.Need-add-i Inv-loop μ-loop
+add-i c = search needs
+
+loop-less : tie.Need-loop-less Inv-loop μ-loop
+loop-less c = search needs
+
+loop-again : tie.Need-loop-again Inv-loop μ-loop
+loop-again c = search needs
+
+same-length-3 : tie.Need-same-length-3 Inv-loop μ-loop
+same-length-3 c = search needs
+
+returns-6 : tie.Need-returns-6 Inv-loop μ-loop
+returns-6 c = search needs
+
+pub decode-spec : {M : Type 1} → statement M
+decode-spec =
+    tie.close
+    (tie.spec
+    Inv-loop
+    μ-loop
+    slice-aggregate-is
+    is-requires
+    returns
+    returns-2
+    returns-3
+    loop-holds
+    mul-digit
+    shared-slice-read-digit
+    digit-requires
+    mul-digit-2
+    add-digit
+    shared-slice-read-digit-2
+    digit-requires-2
+    pair-requires
+    same-length
+    returns-4
+    same-length-2
+    returns-5
+    cast-space
+    slice-write-space
+    add-next
+    add-i
+    loop-less
+    loop-again
+    same-length-3
+    returns-6)

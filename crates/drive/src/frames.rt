@@ -1,0 +1,198 @@
+// Readers, captures and the bytes of frames.
+use crate::names;
+use crate::out::say;
+use crate::out::say_byte;
+use crate::out::say_bytes;
+use crate::out::say_counted;
+use crate::out::say_number;
+use crate::spaces;
+use crate::words::argument;
+use crate::words::byte;
+use crate::words::number;
+use frame::capture::Counted;
+use frame::capture::Event;
+use frame::capture::Kind;
+use frame::capture::Next;
+use frame::capture::next_event;
+use frame::direction::Direction;
+use frame::direction::Named;
+use frame::fields::Brought;
+use frame::reader::ByteAnswer;
+use frame::reader::Reader;
+
+// An operation on a capture or on the bytes of frames.
+pub fn operate(operation: u8, space: &[u8], ends: [usize; 14], count: usize) {
+    if operation == names::PART {
+        let place = number(space, ends, 1) as usize;
+        let length = number(space, ends, 2) as usize;
+        let bytes = argument(space, ends, 3);
+        say_bytes(frame::fields::bytes_at(bytes, place, length));
+        return;
+    }
+    if operation == names::LAST {
+        let length = number(space, ends, 1) as usize;
+        let bytes = argument(space, ends, 2);
+        say_bytes(frame::fields::last_bytes(bytes, length));
+        return;
+    }
+    match frame::direction::direction_of(byte(space, ends, 1)) {
+        Named::Direction(direction) => { directed(operation, direction, space, ends, count) }
+        Named::Refused(number) => say_counted(b"refused ", number as u64),
+    }
+}
+
+fn directed(operation: u8, direction: Direction, space: &[u8], ends: [usize; 14], count: usize) {
+    if operation == names::PARTS {
+        parts(
+            direction,
+            space,
+            ends,
+            std::num::wrapping_sub_usize(count, 1),
+        );
+        return;
+    }
+    if operation == names::EVENT {
+        let place = number(space, ends, 2) as usize;
+        event(direction, argument(space, ends, 3), place);
+        return;
+    }
+    if operation == names::PAIRS {
+        spaces::pairs(direction);
+        return;
+    }
+    captured(
+        operation,
+        byte(space, ends, 1),
+        direction,
+        argument(space, ends, 2),
+    )
+}
+
+fn captured(operation: u8, letter: u8, direction: Direction, bytes: &[u8]) {
+    if operation == names::FEED {
+        feed(direction, bytes);
+        return;
+    }
+    if operation == names::EVENTS {
+        events(direction, bytes);
+        return;
+    }
+    if operation == names::TOTALS {
+        totals(letter, bytes);
+        return;
+    }
+    fields(direction, bytes)
+}
+
+// Part after part of a stream: the arguments from the second on.
+fn parts(direction: Direction, space: &[u8], ends: [usize; 14], count: usize) {
+    let mut reader = Reader::new(direction);
+    for i in 0..count {
+        let bytes = argument(space, ends, std::num::wrapping_add_usize(i, 2));
+        space_before(i);
+        part(reader, bytes);
+        let taken = frame::stream::take_part(reader, bytes);
+        reader = taken.reader;
+    }
+}
+
+// A space before all but the first.
+fn space_before(place: usize) {
+    if place == 0 {
+        return;
+    }
+    say(b" ")
+}
+
+// A fresh reader takes each byte.
+fn feed(direction: Direction, bytes: &[u8]) {
+    let mut reader = Reader::new(direction);
+    for i in 0..bytes.len() {
+        let fed = reader.feed(bytes[i]);
+        reader = fed.reader;
+        let answer = fed.answer;
+        space_before(i);
+        say_answer(answer);
+    }
+}
+
+fn say_answer(answer: ByteAnswer) {
+    match answer {
+        ByteAnswer::Waiting => say(b"w"),
+        ByteAnswer::Noise => say(b"n"),
+        ByteAnswer::Frame(n) => say_counted(b"f", n as u64),
+        ByteAnswer::Broken(n) => say_counted(b"b", n as u64),
+    }
+}
+
+// One part of a stream: what it settled, and the reader after it.
+fn part(reader: Reader, bytes: &[u8]) {
+    let part = frame::stream::take_part(reader, bytes);
+    say_number(part.frame as u64);
+    say_counted(b"/", part.broken as u64);
+    say_counted(b"/", part.noise as u64)
+}
+
+// The events of a capture, from 0 on.
+fn events(direction: Direction, capture: &[u8]) {
+    let mut place = 0;
+    for i in 0..capture.len() {
+        match next_event(direction, capture, place) {
+            Next::Event(event) => {
+                space_before(i);
+                say_event(event);
+                place = std::num::wrapping_add_usize(place, event.length);
+            }
+            Next::End => {
+                return;
+            }
+        }
+    }
+}
+
+// The first event from a place on.
+fn event(direction: Direction, capture: &[u8], place: usize) {
+    match next_event(direction, capture, place) {
+        Next::Event(event) => say_event(event),
+        Next::End => say(b"end"),
+    }
+}
+
+fn say_event(event: Event) {
+    say_number(event.at as u64);
+    say_counted(b"+", event.length as u64);
+    let kind = event.kind;
+    match kind {
+        Kind::Frame => say(b"f"),
+        Kind::Broken => say(b"b"),
+        Kind::Noise => say(b"n"),
+        Kind::Pending => say(b"p"),
+    }
+}
+
+fn totals(letter: u8, capture: &[u8]) {
+    match frame::capture::capture_totals_by_letter(letter, capture) {
+        Counted::Totals(totals) => {
+            say_counted(b"frame ", totals.frame as u64);
+            say_counted(b" broken ", totals.broken as u64);
+            say_counted(b" noise ", totals.noise as u64);
+            say_counted(b" pending ", totals.pending as u64)
+        }
+        Counted::Refused(number) => say_counted(b"refused ", number as u64),
+    }
+}
+
+fn fields(direction: Direction, bytes: &[u8]) {
+    match frame::fields::frame_fields(direction, bytes) {
+        Brought::Frame(fields) => {
+            say_byte(fields.zone);
+            say(b" ");
+            say_byte(fields.command);
+            say(b" ");
+            say_byte(fields.answer);
+            say(b" : ");
+            say_bytes(frame::fields::frame_data(direction, bytes))
+        }
+        Brought::NotOneFrame => say(b"not one frame"),
+    }
+}

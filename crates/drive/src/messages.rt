@@ -1,0 +1,260 @@
+// Messages read and written.
+use crate::names;
+use crate::out::say;
+use crate::out::say_byte;
+use crate::out::say_bytes;
+use crate::out::say_counted;
+use crate::out::say_number;
+use crate::spaces;
+use crate::words::argument;
+use crate::words::byte;
+use crate::words::number;
+use frame::direction::Direction;
+use frame::raw::Written;
+use message::content::Content;
+use message::read::Denial;
+use message::read::FrameReading;
+use message::read::Message;
+use message::read::Reading;
+use message::read::Said;
+use row::profile::Profile;
+use row::signed::Coded;
+use row::table::Found;
+use sheet::line::Line;
+
+// An operation on messages that are read, and on codes and rows.
+pub fn operate(operation: u8, space: &[u8], ends: [usize; 14]) {
+    if operation == names::NUMBER {
+        let number = row::signed::number_of(byte(space, ends, 1));
+        say_integer(b"", number);
+        return;
+    }
+    if operation == names::CODE {
+        let number = signed((number(space, ends, 1) % 65536) as u16);
+        say_code(row::signed::code_of(number));
+        return;
+    }
+    if operation == names::PLAIN {
+        let number = signed((number(space, ends, 1) % 65536) as u16);
+        say_code(row::signed::plain_code_of(number));
+        return;
+    }
+    match row::profile::profile_of(byte(space, ends, 1)) {
+        row::profile::Named::Profile(profile) => { profiled(operation, profile, space, ends) }
+        row::profile::Named::Refused(number) => { say_counted(b"refused ", number as u64) }
+    }
+}
+
+fn say_code(coded: Coded) {
+    match coded {
+        Coded::Code(code) => say_byte(code),
+        Coded::NoCode => say(b"none"),
+    }
+}
+
+fn profiled(operation: u8, profile: Profile, space: &[u8], ends: [usize; 14]) {
+    if operation == names::ROW {
+        say_row(row::table::find_row(profile, byte(space, ends, 2)));
+        return;
+    }
+    if operation == names::LEGAL {
+        let line = Line {
+            zone: byte(space, ends, 2),
+            command: byte(space, ends, 3),
+            value: byte(space, ends, 4),
+        };
+        say_legal(sheet::line::is_legal(profile, line));
+        return;
+    }
+    if operation == names::CODES {
+        let body = argument(space, ends, 4);
+        spaces::codes(profile, byte(space, ends, 2), byte(space, ends, 3), body);
+        return;
+    }
+    match frame::direction::direction_of(byte(space, ends, 2)) {
+        frame::direction::Named::Direction(direction) => {
+            directed(operation, profile, direction, space, ends)
+        }
+        frame::direction::Named::Refused(number) => { say_counted(b"refused ", number as u64) }
+    }
+}
+
+fn say_row(found: Found) {
+    match found {
+        Found::Row(_) => say(b"row"),
+        Found::NoRow => say(b"none"),
+    }
+}
+
+fn say_legal(legal: bool) {
+    if legal {
+        say(b"legal");
+        return;
+    }
+    say(b"not legal")
+}
+
+fn directed(
+    operation: u8,
+    profile: Profile,
+    direction: Direction,
+    space: &[u8],
+    ends: [usize; 14],
+) {
+    if operation == names::ALL {
+        spaces::all(profile, direction);
+        return;
+    }
+    if operation == names::FRAME {
+        frame(profile, direction, argument(space, ends, 3));
+        return;
+    }
+    let body = argument(space, ends, 6);
+    let zone = byte(space, ends, 3);
+    let command = byte(space, ends, 4);
+    let answer = byte(space, ends, 5);
+    let reading = message::read::read_message(profile, direction, zone, command, answer, body);
+    say_reading(reading, body)
+}
+
+// A message, or the number of its refusal; the data are a denied one's.
+pub fn say_reading(reading: Reading, body: &[u8]) {
+    match reading {
+        Reading::Message(message) => say_message(message, body),
+        Reading::Refused(number) => say_counted(b"refused ", number as u64),
+    }
+}
+
+fn frame(profile: Profile, direction: Direction, bytes: &[u8]) {
+    let reading = message::read::read_frame(profile, direction, bytes);
+    let body = message::read::denied_data(profile, direction, bytes);
+    match reading {
+        FrameReading::Message(message) => say_message(message, body),
+        FrameReading::Refused(number) => say_counted(b"refused ", number as u64),
+        FrameReading::NotOneFrame => say(b"not one frame"),
+    }
+}
+
+fn say_message(message: Message, body: &[u8]) {
+    match message {
+        Message::Command(said) => say_said(b"command ", said),
+        Message::Status(said) => say_said(b"status ", said),
+        Message::Denied(denial) => say_denied(denial, body),
+    }
+}
+
+fn say_said(word: &[u8], said: Said) {
+    say_counted(word, said.zone as u64);
+    say(b" ");
+    say_byte(said.command);
+    say(b" ");
+    let content = said.content;
+    say_content(content)
+}
+
+fn say_denied(denial: Denial, body: &[u8]) {
+    say_counted(b"denied ", denial.zone as u64);
+    say(b" ");
+    say_byte(denial.command);
+    say(b" ");
+    say_byte(denial.answer);
+    say(b" : ");
+    say_bytes(body)
+}
+
+pub fn say_content(content: Content) {
+    match content {
+        Content::Request => say(b"request"),
+        Content::Up => say(b"up"),
+        Content::Down => say(b"down"),
+        Content::On => say(b"on"),
+        Content::Off => say(b"off"),
+        Content::Toggle => say(b"toggle"),
+        Content::LevellerOff => say(b"off"),
+        Content::Number(number) => say_integer(b"number ", number),
+        Content::Input(input, on) => say_input(input, on),
+    }
+}
+
+// A word, and a number that may be below zero.
+pub fn say_integer(word: &[u8], number: i16) {
+    say(word);
+    if number < 0 {
+        say_counted(b"-", size_of(number) as u64);
+        return;
+    }
+    say_number(size_of(number) as u64)
+}
+
+// A number without its sign; the wider type is for the least number.
+fn size_of(number: i16) -> u16 {
+    if number < 0 {
+        return (0 - number as i32) as u16;
+    }
+    number as u16
+}
+
+fn say_input(input: u8, on: bool) {
+    say_counted(b"input ", input as u64);
+    if on {
+        say(b" on");
+        return;
+    }
+    say(b" off")
+}
+
+// The answer of a write, and the buffer after it.
+pub fn say_written(written: Written, buf: &[u8]) {
+    match written {
+        Written::Bytes(count) => {
+            say_counted(b"bytes ", count as u64);
+            say_buffer(buf)
+        }
+        Written::Refused(number) => {
+            say_counted(b"refused ", number as u64);
+            say_buffer(buf)
+        }
+    }
+}
+
+pub fn say_buffer(buf: &[u8]) {
+    say(b" : ");
+    say_bytes(buf)
+}
+
+// What a message to be written says, by its number in tests/README.md.
+pub fn content(form: u8, number: i16, input: u8, on: bool) -> Content {
+    if form == 0 {
+        return Content::Request;
+    }
+    if form == 1 {
+        return Content::Up;
+    }
+    if form == 2 {
+        return Content::Down;
+    }
+    if form == 3 {
+        return Content::On;
+    }
+    if form == 4 {
+        return Content::Off;
+    }
+    if form == 5 {
+        return Content::Toggle;
+    }
+    if form == 6 {
+        return Content::LevellerOff;
+    }
+    if form == 7 {
+        return Content::Number(number);
+    }
+    Content::Input(input, on)
+}
+
+// Two bytes as a number, two's complement.
+pub fn signed(value: u16) -> i16 {
+    if value < 32768 {
+        return value as i16;
+    }
+    -1 - (65535 - value) as i16
+}

@@ -1,0 +1,74 @@
+// What is printed, on standard output.
+const OUT: i32 = 1;
+
+pub fn say(part: &[u8]) {
+    io::write_all(OUT, part);
+}
+
+pub fn say_number(number: u64) {
+    io::print_decimal(OUT, number);
+}
+
+// A word, and a number behind it.
+pub fn say_counted(word: &[u8], number: u64) {
+    io::write_all(OUT, word);
+    io::print_decimal(OUT, number);
+}
+
+pub fn say_byte(byte: u8) {
+    io::write_all(OUT, &[digit(byte / 16), digit(byte % 16)]);
+}
+
+fn digit(value: u8) -> u8 {
+    if value < 10 {
+        return b'0' + value;
+    }
+    if value < 16 {
+        return b'A' + (value - 10);
+    }
+    b'?'
+}
+
+// Bytes as hex digits, run together; a dash for none.
+pub fn say_bytes(bytes: &[u8]) {
+    if bytes.len() == 0 {
+        say(b"-");
+        return;
+    }
+    let mut gathered = io::buffer();
+    gather(bytes, &mut gathered);
+}
+
+// Gathers the digits in a lent buffer, and writes it out whenever it is full.
+fn gather(bytes: &[u8], gathered: &mut [u8]) {
+    let mut at = 0;
+    for i in 0..bytes.len() {
+        at = put_pair(gathered, at, bytes[i]);
+    }
+    say(frame::fields::bytes_at(gathered, 0, at));
+}
+
+fn put_pair(gathered: &mut [u8], at: usize, byte: u8) -> usize {
+    let start = with_room(gathered, at);
+    let second = put_byte(gathered, start, digit(byte / 16));
+    put_byte(gathered, second, digit(byte % 16))
+}
+
+fn with_room(gathered: &[u8], at: usize) -> usize {
+    if at <= gathered.len() {
+        if 2 <= gathered.len() - at {
+            return at;
+        }
+    }
+    say(frame::fields::bytes_at(gathered, 0, at));
+    0
+}
+
+// One byte more, where there is room.
+pub fn put_byte(to: &mut [u8], count: usize, byte: u8) -> usize {
+    if count >= to.len() {
+        return count;
+    }
+    to[count] = byte;
+    count + 1
+}

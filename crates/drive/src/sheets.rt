@@ -1,0 +1,103 @@
+// Sheet files, runs, sign-offs and trackers.
+use crate::messages::say_buffer;
+use crate::names;
+use crate::out::say;
+use crate::out::say_byte;
+use crate::out::say_counted;
+use crate::words::argument;
+use crate::words::byte;
+use sheet::check::Verdict;
+use sheet::line::Line;
+use sheet::lines::SHEET_LIMIT;
+use sheet::write::SheetWritten;
+use tracker::plain::CaptureCell;
+use tracker::sign::Signed;
+
+// An operation on sheet files that writes nothing, and on trackers.
+pub fn operate(operation: u8, space: &[u8], ends: [usize; 14]) {
+    let letter = byte(space, ends, 1);
+    let bytes = argument(space, ends, 2);
+    if operation == names::CHECK {
+        check(letter, bytes);
+        return;
+    }
+    if operation == names::SIGN {
+        sign(letter, bytes, argument(space, ends, 3));
+        return;
+    }
+    cell(letter, bytes, byte(space, ends, 3), byte(space, ends, 4))
+}
+
+// A refusal and its place.
+fn say_refused(number: u8, place: usize) {
+    say_counted(b"refused ", number as u64);
+    say_counted(b" at ", place as u64)
+}
+
+fn check(letter: u8, file: &[u8]) {
+    let read = sheet::file::read_file_by_letter(letter, file);
+    let verdict = read.verdict;
+    let sheet = read.sheet;
+    let lines = sheet.lines;
+    match verdict {
+        Verdict::Accepted => say_lines(lines, sheet.count),
+        Verdict::Refused(number, place) => say_refused(number, place),
+    }
+}
+
+fn say_lines(lines: [Line; SHEET_LIMIT], count: usize) {
+    say_counted(b"accepted ", count as u64);
+    if count == 0 {
+        say(b" : -");
+        return;
+    }
+    say(b" :");
+    for i in 0..SHEET_LIMIT {
+        let line = lines[i];
+        say_line(line, i < count);
+    }
+}
+
+// A line of the sheet; those behind its count are not its own.
+fn say_line(line: Line, own: bool) {
+    if !own {
+        return;
+    }
+    say(b" ");
+    say_byte(line.zone);
+    say_byte(line.command);
+    say_byte(line.value)
+}
+
+pub fn say_written(written: SheetWritten, buf: &[u8]) {
+    match written {
+        SheetWritten::Bytes(count) => {
+            say_counted(b"bytes ", count as u64);
+            say_buffer(buf)
+        }
+        SheetWritten::Refused(number, place) => {
+            say_refused(number, place);
+            say_buffer(buf)
+        }
+    }
+}
+
+fn sign(letter: u8, file: &[u8], capture: &[u8]) {
+    match tracker::plain::sign_file(letter, file, capture) {
+        Signed::Yes => say(b"signed"),
+        Signed::No => say(b"not signed"),
+        Signed::Refused(number, place) => say_refused(number, place),
+    }
+}
+
+fn cell(letter: u8, capture: &[u8], zone: u8, command: u8) {
+    match tracker::plain::cell_in_capture(letter, capture, zone, command) {
+        CaptureCell::Value(value) => {
+            say(b"value ");
+            say_byte(value)
+        }
+        CaptureCell::Unknown => say(b"unknown"),
+        CaptureCell::NoCell => say(b"no cell"),
+        CaptureCell::Refused(number) => say_counted(b"refused ", number as u64),
+    }
+}

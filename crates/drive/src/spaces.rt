@@ -1,0 +1,187 @@
+// Every message of a small space.
+use crate::messages::say_content;
+use crate::messages::say_reading;
+use crate::out::say;
+use crate::out::say_byte;
+use crate::out::say_bytes;
+use crate::out::say_counted;
+use frame::direction::Direction;
+use message::read::Message;
+use message::read::Reading;
+use message::read::read_message;
+use row::profile::Profile;
+
+const BYTES: u16 = 256;
+
+// How many messages were accepted and how many got each refusal.
+pub struct Counts {
+    accepted: u64,
+    first: u64,
+    second: u64,
+    third: u64,
+    fourth: u64,
+    fifth: u64,
+}
+
+fn none() -> Counts {
+    Counts {
+        accepted: 0,
+        first: 0,
+        second: 0,
+        third: 0,
+        fourth: 0,
+        fifth: 0,
+    }
+}
+
+// Every zone, command and data byte.
+pub fn all(profile: Profile, direction: Direction) {
+    let mut counts = none();
+    for zone in 0..BYTES {
+        counts = all_commands(profile, direction, zone as u8, counts);
+    }
+    say_counts(counts)
+}
+
+fn all_commands(profile: Profile, direction: Direction, zone: u8, before: Counts) -> Counts {
+    let mut counts = before;
+    for command in 0..BYTES {
+        counts = all_bytes(profile, direction, zone, command as u8, counts);
+    }
+    counts
+}
+
+fn all_bytes(
+    profile: Profile,
+    direction: Direction,
+    zone: u8,
+    command: u8,
+    before: Counts,
+) -> Counts {
+    let mut counts = before;
+    for byte in 0..BYTES {
+        counts = count_one(profile, direction, zone, command, &[byte as u8], counts);
+    }
+    counts
+}
+
+// Every data of two bytes of S 0F in zone 1.
+pub fn pairs(direction: Direction) {
+    let mut counts = none();
+    for first in 0..BYTES {
+        counts = pairs_from(direction, first as u8, counts);
+    }
+    say_counts(counts)
+}
+
+fn pairs_from(direction: Direction, first: u8, before: Counts) -> Counts {
+    let mut counts = before;
+    for second in 0..BYTES {
+        counts = count_one(
+            Profile::S,
+            direction,
+            1,
+            0x0F,
+            &[first, second as u8],
+            counts,
+        );
+    }
+    counts
+}
+
+// One message: counted, and said where it is accepted.
+fn count_one(
+    profile: Profile,
+    direction: Direction,
+    zone: u8,
+    command: u8,
+    body: &[u8],
+    counts: Counts,
+) -> Counts {
+    match read_message(profile, direction, zone, command, 0, body) {
+        Reading::Message(message) => {
+            say_accepted(zone, command, body, message);
+            counted_as(counts, 0)
+        }
+        Reading::Refused(number) => counted_as(counts, number),
+    }
+}
+
+fn one_more(count: u64) -> u64 {
+    std::num::wrapping_add_u64(count, 1)
+}
+
+fn counted_as(counts: Counts, number: u8) -> Counts {
+    let mut next = counts;
+    if number == 0 {
+        next.accepted = one_more(next.accepted);
+    }
+    if number == 1 {
+        next.first = one_more(next.first);
+    }
+    if number == 2 {
+        next.second = one_more(next.second);
+    }
+    if number == 3 {
+        next.third = one_more(next.third);
+    }
+    if number == 4 {
+        next.fourth = one_more(next.fourth);
+    }
+    if number == 5 {
+        next.fifth = one_more(next.fifth);
+    }
+    next
+}
+
+fn say_accepted(zone: u8, command: u8, body: &[u8], message: Message) {
+    say_byte(zone);
+    say(b" ");
+    say_byte(command);
+    say(b" ");
+    say_bytes(body);
+    say(b" ");
+    say_message_content(message);
+    say(b"\n")
+}
+
+fn say_message_content(message: Message) {
+    match message {
+        Message::Command(said) => {
+            let content = said.content;
+            say_content(content)
+        }
+        Message::Status(said) => {
+            let content = said.content;
+            say_content(content)
+        }
+        Message::Denied(_) => say(b"denied"),
+    }
+}
+
+fn say_counts(counts: Counts) {
+    say_counted(b"accepted ", counts.accepted);
+    say_counted(b" refused 1:", counts.first);
+    say_counted(b" 2:", counts.second);
+    say_counted(b" 3:", counts.third);
+    say_counted(b" 4:", counts.fourth);
+    say_counted(b" 5:", counts.fifth)
+}
+
+// An answer with every answer code, a line each.
+pub fn codes(profile: Profile, zone: u8, command: u8, body: &[u8]) {
+    for code in 0..BYTES {
+        one_code(profile, zone, command, code as u8, body);
+    }
+}
+
+fn one_code(profile: Profile, zone: u8, command: u8, code: u8, body: &[u8]) {
+    let reading = read_message(profile, Direction::Answer, zone, command, code, body);
+    say_byte(code);
+    say(b" ");
+    say_reading(reading, body);
+    if code == 255 {
+        return;
+    }
+    say(b"\n")
+}

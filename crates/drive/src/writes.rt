@@ -1,0 +1,196 @@
+// Operations that write into a buffer of a given length, all AA before.
+use crate::messages::content;
+use crate::messages::say_written;
+use crate::messages::signed;
+use crate::names;
+use crate::sheets;
+use crate::words::argument;
+use crate::words::byte;
+use crate::words::number;
+use frame::direction::Direction;
+use frame::raw::Written;
+use frame::raw::write_raw;
+use message::read::Denial;
+use message::read::Message;
+use message::read::Said;
+use message::write::write_fields;
+use message::write::write_message;
+use row::profile::Profile;
+use sheet::write::SheetWritten;
+
+pub fn operate(operation: u8, space: &[u8], ends: [usize; 14], room: &mut [u8]) {
+    let place = length_place(operation);
+    let length = (number(space, ends, place) % 4097) as usize;
+    if length > room.len() {
+        return;
+    }
+    fill(room);
+    let skip = room.len() - length;
+    let spot = number(space, ends, std::num::wrapping_add_usize(place, 1)) as usize;
+    if is_sheet(operation) {
+        let written = write_sheet(operation, space, ends, &mut room[skip..], spot);
+        sheets::say_written(written, frame::fields::last_bytes(room, length));
+        return;
+    }
+    let written = write(operation, space, ends, &mut room[skip..], spot);
+    say_written(written, frame::fields::last_bytes(room, length))
+}
+
+// Which argument the length is.
+fn length_place(operation: u8) -> usize {
+    if operation == names::DECIMAL {
+        return 1;
+    }
+    if operation == names::HEX {
+        return 1;
+    }
+    if operation == names::SEND {
+        return 3;
+    }
+    2
+}
+
+fn is_sheet(operation: u8) -> bool {
+    if operation == names::COPY {
+        return true;
+    }
+    operation == names::RUN
+}
+
+fn fill(room: &mut [u8]) {
+    for i in 0..room.len() {
+        room[i] = 0xAA;
+    }
+}
+
+fn write_sheet(
+    operation: u8,
+    space: &[u8],
+    ends: [usize; 14],
+    buf: &mut [u8],
+    spot: usize,
+) -> SheetWritten {
+    let letter = byte(space, ends, 1);
+    let file = argument(space, ends, 4);
+    if operation == names::COPY {
+        return sheet::plain::copy_file(letter, file, buf, spot);
+    }
+    sheet::plain::run_of_file(letter, file, buf, spot)
+}
+
+fn write(operation: u8, space: &[u8], ends: [usize; 14], buf: &mut [u8], spot: usize) -> Written {
+    if operation == names::DECIMAL {
+        return text::number::write_decimal(buf, spot, (number(space, ends, 3) % 65536) as u16);
+    }
+    if operation == names::HEX {
+        return text::number::write_hex(buf, spot, byte(space, ends, 3));
+    }
+    if operation == names::RAW {
+        return raw(space, ends, buf, spot);
+    }
+    match row::profile::profile_of(byte(space, ends, 1)) {
+        row::profile::Named::Profile(profile) => {
+            profiled(operation, profile, space, ends, buf, spot)
+        }
+        row::profile::Named::Refused(number) => Written::Refused(number),
+    }
+}
+
+fn raw(space: &[u8], ends: [usize; 14], buf: &mut [u8], spot: usize) -> Written {
+    match frame::direction::direction_of(byte(space, ends, 1)) {
+        frame::direction::Named::Direction(direction) => {
+            let body = argument(space, ends, 7);
+            write_raw(
+                direction,
+                buf,
+                spot,
+                byte(space, ends, 4),
+                byte(space, ends, 5),
+                byte(space, ends, 6),
+                body,
+            )
+        }
+        frame::direction::Named::Refused(number) => Written::Refused(number),
+    }
+}
+
+fn profiled(
+    operation: u8,
+    profile: Profile,
+    space: &[u8],
+    ends: [usize; 14],
+    buf: &mut [u8],
+    spot: usize,
+) -> Written {
+    if operation == names::WRITE {
+        let body = argument(space, ends, 11);
+        let message = message_of(space, ends);
+        return write_message(profile, buf, spot, message, body);
+    }
+    match frame::direction::direction_of(byte(space, ends, 2)) {
+        frame::direction::Named::Direction(direction) => {
+            send(profile, direction, space, ends, buf, spot)
+        }
+        frame::direction::Named::Refused(number) => Written::Refused(number),
+    }
+}
+
+fn send(
+    profile: Profile,
+    direction: Direction,
+    space: &[u8],
+    ends: [usize; 14],
+    buf: &mut [u8],
+    spot: usize,
+) -> Written {
+    let body = argument(space, ends, 8);
+    let zone = byte(space, ends, 5);
+    let command = byte(space, ends, 6);
+    let answer = byte(space, ends, 7);
+    write_fields(profile, direction, buf, spot, zone, command, answer, body)
+}
+
+// A message by its kind and form, as tests/README.md numbers them.
+fn message_of(space: &[u8], ends: [usize; 14]) -> Message {
+    let kind = byte(space, ends, 4);
+    let zone = byte(space, ends, 5);
+    let command = byte(space, ends, 6);
+    if kind == b'D' {
+        return Message::Denied(Denial {
+            zone: zone,
+            command: command,
+            answer: byte(space, ends, 7),
+        });
+    }
+    let value = number(space, ends, 9) % 65536;
+    let says = content(
+        byte(space, ends, 8),
+        signed(value as u16),
+        (value % 256) as u8,
+        byte(space, ends, 10) != 0,
+    );
+    let said = Said {
+        zone: zone,
+        command: command,
+        content: says,
+    };
+    if kind == b'C' {
+        return Message::Command(said);
+    }
+    Message::Status(said)
+}
+
+// Whether a `write` has a kind and a form.
+pub fn is_written(space: &[u8], ends: [usize; 14]) -> bool {
+    let kind = byte(space, ends, 4);
+    if kind == b'D' {
+        return true;
+    }
+    if byte(space, ends, 8) > 8 {
+        return false;
+    }
+    if kind == b'C' {
+        return true;
+    }
+    kind == b'S'
+}

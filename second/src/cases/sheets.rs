@@ -1,0 +1,203 @@
+//! Cases of sheets, and of histories that sign them off or do not.
+
+use super::Cases;
+use crate::frame::Direction;
+use crate::rows::{Profile, ROWS};
+use crate::samples::{self, PROFILES};
+use crate::sheet::{self, Line, RECORD, RUN_ZEROS};
+
+impl Cases {
+    /// A sheet's lines: accepted, or with one fault.
+    fn lines(&mut self, profile: Profile) -> Vec<Line> {
+        let size = self.random.between(0, samples::most_lines(profile));
+        let mut lines = samples::sheet(&mut self.random, profile, size);
+        match self.random.below(18) {
+            0 => {
+                // 13 lines and more, legal ones first.
+                let mut more = samples::full_sheet(&mut self.random, profile);
+                more.extend(samples::full_sheet(&mut self.random, profile));
+                let size = *self.random.pick(&[12, 13, 13, 14, 15, 16]);
+                more.truncate(size);
+                lines = more;
+            }
+            1 | 2 if !lines.is_empty() => {
+                let place = self.random.below(lines.len());
+                lines[place].zone = *self.random.pick(&[0, 3, 4, 255]);
+            }
+            3 if !lines.is_empty() => {
+                let place = self.random.below(lines.len());
+                lines[place].command = match self.random.below(2) {
+                    0 => self.random.pick(&ROWS).command,
+                    _ => self.random.byte(),
+                };
+            }
+            4 | 5 if !lines.is_empty() => {
+                let place = self.random.below(lines.len());
+                let other = self.random.byte();
+                lines[place].value = *self.random.pick(&[
+                    0x01, 0x02, 0x0B, 0x10, 0x64, 0x80, 0x8B, 0x90, 0xF0, 0xF1, 0xF2, 0xFF, other,
+                ]);
+            }
+            6 | 7 if !lines.is_empty() => {
+                // A zone and row again, with the same value or another.
+                let again = *self.random.pick(&lines);
+                let place = self.random.between(0, lines.len());
+                lines.insert(place, again);
+                if self.random.percent(30) {
+                    let place = self.random.below(lines.len());
+                    lines[place].value = 0x80;
+                }
+            }
+            _ => {}
+        }
+        lines
+    }
+
+    /// A sheet file of lines, now and then not whole or with a wrong mark or profile.
+    fn file(&mut self, profile: Profile, lines: &[Line]) -> Vec<u8> {
+        let mut file = sheet::records(profile, lines);
+        if file.is_empty() {
+            if self.random.percent(15) {
+                let count = self.random.between(1, 7);
+                return self.random.bytes(count);
+            }
+            return file;
+        }
+        let record = RECORD * self.random.below(lines.len());
+        match self.random.below(24) {
+            0 => {
+                let place = record + self.random.below(3);
+                let other = self.random.byte();
+                file[place] = *self.random.pick(&[0x00, 0x41, 0x4C, 0x53, other]);
+            }
+            1 => file[record + 2] = *self.random.pick(&[0x41, 0x53, 0x61, 0x00]),
+            2 => file.truncate(self.random.below(file.len())),
+            3 => {
+                let count = self.random.between(1, 5);
+                let more = self.random.bytes(count);
+                file.extend(more);
+            }
+            4 => {
+                file.remove(self.random.below(file.len()));
+                if self.random.percent(50) {
+                    file.push(0x00);
+                }
+            }
+            _ => {}
+        }
+        file
+    }
+
+    /// A profile to be told, now and then the other one.
+    fn told(&mut self, profile: Profile) -> [u8; 1] {
+        match self.random.percent(4) {
+            true => [PROFILES
+                .iter()
+                .find(|&&other| other != profile)
+                .map_or(0, |p| p.letter())],
+            false => self.letter(profile.letter()),
+        }
+    }
+
+    pub(super) fn sheet_case(&mut self) {
+        let profile = self.profile();
+        let lines = self.lines(profile);
+        let file = self.file(profile, &lines);
+        let p = self.told(profile);
+        self.add("check", &[&p, &file]);
+        let (length, place) = self.buffer(file.len());
+        self.add("copy", &[&p, &length, &place, &file]);
+        let (length, place) = self.buffer(RUN_ZEROS + file.len());
+        self.add("run", &[&p, &length, &place, &file]);
+        for line in lines.iter().take(3) {
+            let p = self.told(profile);
+            self.add("legal", &[&p, &[line.zone], &[line.command], &[line.value]]);
+        }
+    }
+
+    pub(super) fn history_case(&mut self) {
+        let profile = self.profile();
+        let size = self.random.between(0, samples::most_lines(profile));
+        let lines = samples::sheet(&mut self.random, profile, size);
+        let mut capture = Vec::new();
+        // What the unit said before.
+        for _ in 0..self.random.below(6) {
+            capture.extend(samples::valid(&mut self.random, profile, Direction::Answer));
+        }
+        if self.random.percent(20) {
+            let length = self.random.between(1, 60);
+            let noise = samples::capture(&mut self.random, profile, Direction::Answer, length);
+            capture.extend(noise);
+            // Brings the reader outside, whatever was cut.
+            capture.extend(vec![0x00; 256]);
+        }
+        self.answers(profile, &lines, &mut capture);
+        if self.random.percent(12) {
+            samples::damage(&mut self.random, &mut capture);
+        }
+        let mut file = sheet::records(profile, &lines);
+        if self.random.percent(12) {
+            let lines = self.lines(profile);
+            file = self.file(profile, &lines);
+        }
+        let p = self.told(profile);
+        self.add("sign", &[&p, &file, &capture]);
+        for zone in 1..=profile.zones() {
+            for row in samples::rows_of(profile) {
+                let p = self.letter(profile.letter());
+                self.add("cell", &[&p, &capture, &[zone], &[row.command]]);
+            }
+        }
+        for _ in 0..4 {
+            let command = self.random.pick(&ROWS).command;
+            let (other_zone, other) = (self.random.byte(), self.random.byte());
+            let zone = *self.random.pick(&[0, 1, 2, 3, 4, 255, other_zone]);
+            let command = *self.random.pick(&[command, command, 0x99, other]);
+            self.add(
+                "cell",
+                &[&[profile.letter()], &capture, &[zone], &[command]],
+            );
+        }
+    }
+
+    /// An answer for each line, and one thing more or less.
+    fn answers(&mut self, profile: Profile, lines: &[Line], capture: &mut Vec<u8>) {
+        let mut order = lines.to_vec();
+        self.random.shuffle(&mut order);
+        let good = |line: &Line| samples::answer(line.zone, line.command, line.value);
+        let Some(chosen) = order.first().copied() else {
+            return;
+        };
+        // Another legal value for the chosen line's cell, if it has one.
+        let rows = samples::rows_of(profile);
+        let values: Vec<u8> = rows
+            .iter()
+            .filter(|row| row.command == chosen.command)
+            .flat_map(|row| samples::sheet_values(row))
+            .collect();
+        let stale = samples::answer(chosen.zone, chosen.command, *self.random.pick(&values));
+        let code = self.random.between(0x82, 0x86) as u8;
+        let denied = samples::denied(chosen.zone, chosen.command, code);
+        let refused = match self.random.below(3) {
+            0 => samples::answer(chosen.zone, chosen.command, 0x80),
+            1 => samples::answer(0, chosen.command, chosen.value),
+            _ => samples::denied(chosen.zone, chosen.command, 0x81),
+        };
+        let all: Vec<u8> = order.iter().flat_map(good).collect();
+        let without: Vec<u8> = order[1..].iter().flat_map(good).collect();
+        let parts = match self.random.below(9) {
+            0 => vec![all, stale],
+            1 => vec![stale, all],
+            2 => vec![without],
+            3 => vec![all, denied],
+            4 => vec![without, denied],
+            5 => vec![all, refused],
+            6 => vec![without, refused],
+            7 => vec![all.clone(), stale, all],
+            _ => vec![all],
+        };
+        for part in parts {
+            capture.extend(part);
+        }
+    }
+}

@@ -1,0 +1,238 @@
+//! Messages: read from what a frame brings, and written as the bytes of a frame.
+
+use crate::frame::{Direction, Frame, DATA_LIMIT};
+use crate::rows::{self, Profile, Says, ROWS};
+
+#[derive(Clone, Copy, PartialEq, Eq, Debug)]
+pub enum Message<'a> {
+    Command {
+        zone: u8,
+        command: u8,
+        says: Says,
+    },
+    Status {
+        zone: u8,
+        command: u8,
+        says: Says,
+    },
+    /// As it came, unchecked.
+    Denied {
+        zone: u8,
+        command: u8,
+        answer_code: u8,
+        data: &'a [u8],
+    },
+}
+
+/// Zone of the profile, row, zone of the row; gives the row's place in the table.
+fn row_of(profile: Profile, zone: u8, command: u8) -> Result<usize, u8> {
+    if !profile.has_zone(zone) {
+        return Err(1);
+    }
+    let row = rows::find(profile, command).ok_or(2)?;
+    if !ROWS[row].has_zone(zone) {
+        return Err(1);
+    }
+    Ok(row)
+}
+
+fn is_denial(answer_code: u8) -> bool {
+    (0x82..=0x86).contains(&answer_code)
+}
+
+/// The message that these fields are; in a command the answer code is not looked at.
+pub fn read<'a>(
+    profile: Profile,
+    direction: Direction,
+    frame: Frame<'a>,
+) -> Result<Message<'a>, u8> {
+    let Frame {
+        zone,
+        command,
+        answer_code,
+        data,
+    } = frame;
+    if direction == Direction::Answer && answer_code != 0x00 {
+        if !is_denial(answer_code) {
+            return Err(5);
+        }
+        if data.len() > DATA_LIMIT {
+            return Err(3);
+        }
+        return Ok(Message::Denied {
+            zone,
+            command,
+            answer_code,
+            data,
+        });
+    }
+    let row = row_of(profile, zone, command)?;
+    let says = ROWS[row].says(direction, data)?;
+    Ok(match direction {
+        Direction::Command => Message::Command {
+            zone,
+            command,
+            says,
+        },
+        Direction::Answer => Message::Status {
+            zone,
+            command,
+            says,
+        },
+    })
+}
+
+/// The frame of a message, checked as in reading.
+pub fn bytes(profile: Profile, message: Message) -> Result<Vec<u8>, u8> {
+    let (direction, zone, command, says) = match message {
+        Message::Command {
+            zone,
+            command,
+            says,
+        } => (Direction::Command, zone, command, says),
+        Message::Status {
+            zone,
+            command,
+            says,
+        } => (Direction::Answer, zone, command, says),
+        Message::Denied {
+            zone,
+            command,
+            answer_code,
+            data,
+        } => {
+            if !is_denial(answer_code) {
+                return Err(5);
+            }
+            let frame = Frame {
+                zone,
+                command,
+                answer_code,
+                data,
+            };
+            return frame.bytes(Direction::Answer);
+        }
+    };
+    let row = row_of(profile, zone, command)?;
+    let data = ROWS[row].data(direction, says)?;
+    let frame = Frame {
+        zone,
+        command,
+        answer_code: 0x00,
+        data: &data,
+    };
+    frame.bytes(direction)
+}
+
+#[cfg(test)]
+mod tests {
+    use super::*;
+    use crate::text;
+    use Direction::{Answer, Command};
+    use Profile::{A, S};
+
+    /// What a bench frame is: what it says, denied, or a refusal.
+    enum Is {
+        Says(Says),
+        Denied,
+        Refused(u8),
+    }
+    use Is::{Denied, Refused};
+
+    fn number(number: i16) -> Is {
+        Is::Says(Says::Number(number))
+    }
+
+    #[test]
+    fn bench_frames() {
+        let input_6_on = Says::Input { input: 6, on: true };
+        let bench = [
+            (A, Command, "21013A01850D", number(-5)),
+            (A, Command, "21013A01800D", Refused(4)),
+            (A, Command, "21013901FF0D", Is::Says(Says::LevellerOff)),
+            (A, Command, "210139010B0D", Refused(4)),
+            (A, Command, "210145018A0D", number(-10)),
+            (A, Command, "210145018B0D", Refused(4)),
+            (A, Command, "2104990200000D", Refused(1)),
+            (A, Command, "21021001F00D", Refused(1)),
+            (A, Command, "2101380200000D", Refused(3)),
+            (S, Command, "21010D010D0D", number(13)),
+            (S, Command, "21010D01630D", number(99)),
+            (S, Command, "21010D01640D", Refused(4)),
+            (S, Command, "21013701F10D", Refused(4)),
+            (S, Answer, "21010E0001020D", Refused(4)),
+            (S, Answer, "21010F000206010D", Is::Says(input_6_on)),
+            (A, Answer, "21079983000D", Denied),
+            (A, Answer, "2101388101020D", Refused(5)),
+        ];
+        for (profile, direction, hex, is) in bench {
+            let frame_bytes = text::bytes(hex.as_bytes()).unwrap();
+            let frame = Frame::of(direction, &frame_bytes).unwrap();
+            let message = read(profile, direction, frame);
+            match is {
+                Refused(refusal) => assert_eq!(message, Err(refusal), "{hex}"),
+                Denied => assert!(matches!(
+                    message,
+                    Ok(Message::Denied {
+                        zone: 7,
+                        command: 0x99,
+                        answer_code: 0x83,
+                        data: []
+                    })
+                )),
+                Is::Says(expected) => match message.unwrap() {
+                    Message::Command { says, .. } | Message::Status { says, .. } => {
+                        assert_eq!(says, expected, "{hex}")
+                    }
+                    Message::Denied { .. } => panic!("{hex}"),
+                },
+            }
+            // A message that is written reads back as itself.
+            if let Ok(message) = message {
+                assert_eq!(bytes(profile, message), Ok(frame_bytes));
+            }
+        }
+    }
+
+    #[test]
+    fn order_of_the_checks() {
+        let frame = |zone, command, answer_code, data| Frame {
+            zone,
+            command,
+            answer_code,
+            data,
+        };
+        let read = |profile, direction, frame| read(profile, direction, frame).err();
+        assert_eq!(read(A, Command, frame(4, 0x99, 0, &[])), Some(1));
+        assert_eq!(read(A, Command, frame(2, 0x99, 0, &[])), Some(2));
+        assert_eq!(read(A, Command, frame(2, 0x10, 0, &[])), Some(1));
+        assert_eq!(read(A, Answer, frame(9, 0x99, 0x81, &[])), Some(5));
+        assert_eq!(read(A, Command, frame(1, 0x38, 0x81, &[0])), None);
+        assert_eq!(read(S, Command, frame(1, 0x0F, 0, &[1])), Some(4));
+        assert_eq!(read(S, Answer, frame(1, 0x0F, 0, &[0xF0])), Some(3));
+        assert_eq!(read(S, Answer, frame(1, 0x0F, 0, &[4, 1])), Some(4));
+        assert_eq!(read(A, Answer, frame(0, 0xFF, 0x82, &[0; 256])), Some(3));
+    }
+
+    #[test]
+    fn a_message_that_its_row_cannot_say_is_4() {
+        let command = |command, says| Message::Command {
+            zone: 1,
+            command,
+            says,
+        };
+        let status = |command, says| Message::Status {
+            zone: 1,
+            command,
+            says,
+        };
+        assert_eq!(bytes(A, command(0x37, Says::Up)), Err(4));
+        assert_eq!(bytes(A, command(0x38, Says::On)), Err(4));
+        assert_eq!(bytes(A, command(0x39, Says::Number(255))), Err(4));
+        assert_eq!(bytes(A, command(0x3A, Says::Number(-112))), Err(4));
+        assert_eq!(bytes(S, command(0x0E, Says::Number(2))), Err(4));
+        assert_eq!(bytes(A, status(0x37, Says::On)), Err(4));
+        assert_eq!(bytes(S, status(0x0F, Says::Number(300))), Err(3));
+        assert_eq!(bytes(S, command(0x0F, Says::Number(300))), Err(4));
+    }
+}

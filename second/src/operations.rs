@@ -1,0 +1,333 @@
+//! The operations of the tests: a line each, and what is printed for it.
+
+mod captures;
+mod messages;
+mod sheets;
+
+use std::fmt::Write as _;
+use std::io::{self, BufRead, Write};
+
+use crate::frame::{self, Direction, Frame};
+use crate::rows::{self, Profile};
+use crate::sheet::{self, Fault, Line};
+use crate::tally::{Kind, Tally, NO_OPERATION};
+use crate::text;
+
+/// Every operation's word, in the document's order.
+pub const WORDS: [&str; 30] = [
+    "feed", "parts", "events", "event", "totals", "fields", "part", "last", "frame", "read",
+    "write", "send", "raw", "number", "code", "plain", "row", "legal", "check", "copy", "run",
+    "sign", "cell", "listing", "pieces", "all", "pairs", "codes", "decimal", "hex",
+];
+
+/// The most characters of a line, its line feed not counted.
+pub const LINE_LIMIT: usize = 262_143;
+
+/// The most bytes of a buffer.
+pub const BUFFER_LIMIT: u64 = 4_096;
+
+/// The most parts of `parts`.
+const PARTS_LIMIT: usize = 12;
+
+/// A refusal's number, and a sheet's place where one is printed.
+struct Refusal {
+    number: u8,
+    at: Option<usize>,
+}
+
+impl From<u8> for Refusal {
+    fn from(number: u8) -> Refusal {
+        Refusal { number, at: None }
+    }
+}
+
+impl From<Fault> for Refusal {
+    fn from(fault: Fault) -> Refusal {
+        Refusal {
+            number: fault.number,
+            at: Some(fault.at),
+        }
+    }
+}
+
+type Answer = Result<String, Refusal>;
+
+/// What an operation prints: its answer, and the buffer where it writes.
+struct Reply {
+    answer: Answer,
+    buffer: Option<Vec<u8>>,
+}
+
+impl From<Answer> for Reply {
+    fn from(answer: Answer) -> Reply {
+        Reply {
+            answer,
+            buffer: None,
+        }
+    }
+}
+
+/// Runs each line of the input.
+pub fn run_all(mut input: impl BufRead, mut output: impl Write) -> io::Result<()> {
+    let mut tally = Tally::default();
+    let mut line = Vec::new();
+    let mut printed = String::new();
+    while input.read_until(b'\n', &mut line)? > 0 {
+        if line.last() == Some(&b'\n') {
+            line.pop();
+        }
+        printed.clear();
+        if line.first() != Some(&b'#') {
+            run(&line, &mut printed, &mut tally);
+        }
+        output.write_all(printed.as_bytes())?;
+        line.clear();
+    }
+    output.flush()
+}
+
+/// Runs one line and adds what it prints, with its line feed.
+pub fn run(line: &[u8], printed: &mut String, tally: &mut Tally) {
+    let Some(reply) = reply(line, tally) else {
+        tally.count(Kind::Word(NO_OPERATION));
+        printed.push_str("?\n");
+        return;
+    };
+    match reply.answer {
+        Ok(text) => printed.push_str(&text),
+        Err(Refusal { number, at }) => {
+            tally.count(Kind::Refusal(number));
+            // Writing into a string does not fail.
+            let _ = write!(printed, "refused {number}");
+            if let Some(at) = at {
+                let _ = write!(printed, " at {at}");
+            }
+        }
+    }
+    if let Some(buffer) = reply.buffer {
+        printed.push_str(" : ");
+        printed.push_str(&text::hex(&buffer));
+    }
+    printed.push('\n');
+}
+
+/// The reply to a line; none where it prints `?`.
+fn reply(line: &[u8], tally: &mut Tally) -> Option<Reply> {
+    if line.len() > LINE_LIMIT {
+        return None;
+    }
+    let mut parts = line.split(|&character| character == b' ');
+    let word = parts.next()?;
+    let word = WORDS.iter().find(|known| known.as_bytes() == word)?;
+    let arguments: Vec<Vec<u8>> = parts.map(text::bytes).collect::<Option<_>>()?;
+    let arguments: Vec<&[u8]> = arguments.iter().map(Vec::as_slice).collect();
+    let reply = match (*word, arguments.as_slice()) {
+        ("feed", [d, bytes]) => captures::feed(one(d)?, bytes).into(),
+        ("parts", [d, parts @ ..]) if (1..=PARTS_LIMIT).contains(&parts.len()) => {
+            captures::parts_of(one(d)?, parts).into()
+        }
+        ("events", [d, bytes]) => captures::events(one(d)?, bytes, tally).into(),
+        ("event", [d, place, bytes]) => {
+            captures::event(one(d)?, text::number(place)?, bytes, tally).into()
+        }
+        ("totals", [d, bytes]) => captures::totals(one(d)?, bytes).into(),
+        ("fields", [d, bytes]) => captures::fields(one(d)?, bytes).into(),
+        ("part", [place, count, bytes]) => Ok(captures::part(
+            text::number(place)?,
+            text::number(count)?,
+            bytes,
+        ))
+        .into(),
+        ("last", [count, bytes]) => Ok(captures::last(text::number(count)?, bytes)).into(),
+        ("frame", [p, d, bytes]) => messages::frame_message(one(p)?, one(d)?, bytes, tally).into(),
+        ("read", [p, d, zone, command, ac, data]) => {
+            let frame = frame_of(one(zone)?, one(command)?, one(ac)?, data);
+            messages::read(one(p)?, one(d)?, frame, tally).into()
+        }
+        ("write", [p, length, place, rest @ ..]) => {
+            let message = messages::said(rest)?;
+            messages::write(one(p)?, size(length)?, text::number(place)?, message)
+        }
+        ("send", [p, d, length, place, zone, command, ac, data]) => {
+            let frame = frame_of(one(zone)?, one(command)?, one(ac)?, data);
+            messages::send(one(p)?, one(d)?, size(length)?, text::number(place)?, frame)
+        }
+        ("raw", [d, length, place, zone, command, ac, data]) => {
+            let frame = frame_of(one(zone)?, one(command)?, one(ac)?, data);
+            messages::raw(one(d)?, size(length)?, text::number(place)?, frame)
+        }
+        ("number", [code]) => Ok(rows::number_of(one(code)?).to_string()).into(),
+        ("code", [number]) => Ok(messages::code(rows::signed_code(signed(number)?))).into(),
+        ("plain", [number]) => Ok(messages::code(rows::plain_code(signed(number)?))).into(),
+        ("row", [p, command]) => messages::row(one(p)?, one(command)?).into(),
+        ("legal", [p, zone, command, value]) => {
+            let line = Line {
+                zone: one(zone)?,
+                command: one(command)?,
+                value: one(value)?,
+            };
+            sheets::legal(one(p)?, line).into()
+        }
+        ("check", [p, file]) => sheets::check(one(p)?, file).into(),
+        ("copy", [p, length, place, file]) => {
+            let place = text::number(place)?;
+            sheets::sheet_bytes(one(p)?, size(length)?, place, file, sheet::file)
+        }
+        ("run", [p, length, place, file]) => {
+            let place = text::number(place)?;
+            sheets::sheet_bytes(one(p)?, size(length)?, place, file, sheet::run)
+        }
+        ("sign", [p, file, capture]) => sheets::sign(one(p)?, file, capture, tally).into(),
+        ("cell", [p, capture, zone, command]) => {
+            sheets::cell(one(p)?, capture, one(zone)?, one(command)?).into()
+        }
+        ("listing", [input]) => captures::list(input, None, tally).into(),
+        ("pieces", [length, input]) => captures::list(input, Some(size(length)?), tally).into(),
+        ("all", [p, d]) => messages::all(one(p)?, one(d)?).into(),
+        ("pairs", [d]) => messages::pairs(one(d)?).into(),
+        ("codes", [p, zone, command, data]) => {
+            messages::codes(one(p)?, one(zone)?, one(command)?, data).into()
+        }
+        ("decimal", [length, place, number]) => {
+            let decimal = signed(number)? as u16;
+            written(size(length)?, text::number(place)?, || {
+                Ok(decimal.to_string().into_bytes())
+            })
+        }
+        ("hex", [length, place, code]) => {
+            let code = one(code)?;
+            written(size(length)?, text::number(place)?, || {
+                Ok(text::hex(&[code]).into_bytes())
+            })
+        }
+        _ => return None,
+    };
+    tally.count(Kind::Word(word));
+    Some(reply)
+}
+
+/// An argument of one byte.
+fn one(argument: &[u8]) -> Option<u8> {
+    match *argument {
+        [byte] => Some(byte),
+        _ => None,
+    }
+}
+
+/// A buffer's length.
+fn size(argument: &[u8]) -> Option<usize> {
+    let length = text::number(argument)?;
+    if length > BUFFER_LIMIT {
+        return None;
+    }
+    usize::try_from(length).ok()
+}
+
+/// A number of two bytes, two's complement.
+fn signed(argument: &[u8]) -> Option<i16> {
+    match *argument {
+        [high, low] => Some(i16::from_be_bytes([high, low])),
+        _ => None,
+    }
+}
+
+fn profile_of(letter: u8) -> Result<Profile, u8> {
+    Profile::from_letter(letter).ok_or(12)
+}
+
+fn direction_of(letter: u8) -> Result<Direction, u8> {
+    Direction::from_letter(letter).ok_or(12)
+}
+
+fn frame_of(zone: u8, command: u8, answer_code: u8, data: &[u8]) -> Frame<'_> {
+    Frame {
+        zone,
+        command,
+        answer_code,
+        data,
+    }
+}
+
+/// Writes bytes that may be refused into a buffer of AA.
+fn written(length: usize, place: u64, bytes: impl FnOnce() -> Result<Vec<u8>, Refusal>) -> Reply {
+    let mut buffer = vec![0xAA; length];
+    let answer = bytes()
+        .and_then(|bytes| Ok(frame::put(&mut buffer, place, &bytes)?))
+        .map(|count| format!("bytes {count}"));
+    Reply {
+        answer,
+        buffer: Some(buffer),
+    }
+}
+
+#[cfg(test)]
+mod tests {
+    use super::*;
+
+    /// What a line prints, without its line feed.
+    fn print(line: &str) -> String {
+        let mut printed = String::new();
+        run(line.as_bytes(), &mut printed, &mut Tally::default());
+        assert_eq!(printed.pop(), Some('\n'));
+        printed
+    }
+
+    #[test]
+    fn the_examples_of_the_table() {
+        let worked = "0021013A0001850D21013800010221";
+        assert_eq!(print("feed 43 21010D010D0D"), "w w w w w f6");
+        assert_eq!(
+            print(&format!("events 52 {worked}")),
+            "0+1n 1+7f 8+6b 14+1p"
+        );
+        assert_eq!(print(&format!("event 52 08 {worked}")), "8+6b");
+        assert_eq!(print(&format!("event 52 0F {worked}")), "end");
+        assert_eq!(
+            print(&format!("totals 52 {worked}")),
+            "frame 7 broken 6 noise 1 pending 1"
+        );
+        assert_eq!(print("parts 52 0021013A00 01850D"), "0/0/1 7/0/0");
+        assert_eq!(print("fields 52 21013A0001850D"), "01 3A 00 : 85");
+        assert_eq!(print("read 41 43 01 3A 00 85"), "command 1 3A number -5");
+        assert_eq!(print("frame 41 52 21079983000D"), "denied 7 99 83 : -");
+        assert_eq!(
+            print("write 41 08 01 43 01 3A 00 07 FFFB 00 -"),
+            "bytes 6 : AA21013A01850DAA"
+        );
+        assert_eq!(
+            print("check 41 534C41013A85534C410239FF"),
+            "accepted 2 : 013A85 0239FF"
+        );
+        assert_eq!(print("check 58 -"), "refused 12 at 0");
+        assert_eq!(print("cell 41 21013A0001850D 01 3A"), "value 85");
+        assert_eq!(print("sign 41 534C41013A85 21013A0001850D"), "signed");
+        assert_eq!(print("part 01 02 010203"), "0203");
+        assert_eq!(print("part FFFFFFFFFFFFFFFF 02 010203"), "-");
+        assert_eq!(print("last 02 010203"), "0203");
+        assert_eq!(print("decimal 05 01 0064"), "bytes 3 : AA313030AA");
+        assert_eq!(print("hex 02 00 3a"), "bytes 2 : 3341");
+        assert_eq!(print("feed 43 -"), "");
+    }
+
+    #[test]
+    fn lines_that_are_no_operation() {
+        for line in [
+            "",
+            "feed",
+            "feed 43",
+            "feed 43  21",
+            "feed 43 2",
+            "feed 43 21 ",
+            "Feed 43 21",
+            "feed 4343 21",
+            "code 01",
+            "part 000000000000000000 01 21",
+            "hex 1001 00 3A",
+            "write 41 08 01 45 01 3A 00 07 FFFB 00 -",
+            "write 41 08 01 43 01 3A 00 09 FFFB 00 -",
+            "parts 43",
+        ] {
+            assert_eq!(print(line), "?", "{line}");
+        }
+    }
+}

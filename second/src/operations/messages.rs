@@ -1,0 +1,232 @@
+//! Operations on messages and their rows.
+
+use std::fmt::Write as _;
+
+use super::{direction_of, frame_of, one, profile_of, signed, written, Answer, Reply};
+use crate::frame::{Direction, Frame};
+use crate::message::{self, Message};
+use crate::rows::{self, Profile, Says};
+use crate::tally::Tally;
+use crate::text;
+
+pub(super) fn frame_message(p: u8, d: u8, bytes: &[u8], tally: &mut Tally) -> Answer {
+    let (profile, direction) = (profile_of(p)?, direction_of(d)?);
+    let Some(frame) = Frame::of(direction, bytes) else {
+        return Ok("not one frame".to_string());
+    };
+    read_message(profile, direction, frame, tally)
+}
+
+pub(super) fn read(p: u8, d: u8, frame: Frame, tally: &mut Tally) -> Answer {
+    read_message(profile_of(p)?, direction_of(d)?, frame, tally)
+}
+
+fn read_message(profile: Profile, direction: Direction, frame: Frame, tally: &mut Tally) -> Answer {
+    let message = message::read(profile, direction, frame)?;
+    tally.message(profile, &message);
+    Ok(print_message(message))
+}
+
+fn print_message(message: Message) -> String {
+    match message {
+        Message::Command {
+            zone,
+            command,
+            says,
+        } => format!("command {zone} {command:02X} {}", print_says(says)),
+        Message::Status {
+            zone,
+            command,
+            says,
+        } => format!("status {zone} {command:02X} {}", print_says(says)),
+        Message::Denied {
+            zone,
+            command,
+            answer_code,
+            data,
+        } => format!(
+            "denied {zone} {command:02X} {answer_code:02X} : {}",
+            text::hex(data)
+        ),
+    }
+}
+
+fn print_says(says: Says) -> String {
+    match says {
+        Says::Request => "request".to_string(),
+        Says::Up => "up".to_string(),
+        Says::Down => "down".to_string(),
+        Says::On => "on".to_string(),
+        Says::Off | Says::LevellerOff => "off".to_string(),
+        Says::Toggle => "toggle".to_string(),
+        Says::Number(number) => format!("number {number}"),
+        Says::Input { input, on: true } => format!("input {input} on"),
+        Says::Input { input, on: false } => format!("input {input} off"),
+    }
+}
+
+/// The message of `write` from KIND on; none for another KIND or FORM.
+pub(super) fn said<'a>(arguments: &[&'a [u8]]) -> Option<Message<'a>> {
+    let [kind, zone, command, ac, form, number, state, data] = arguments else {
+        return None;
+    };
+    let (zone, command, answer_code) = (one(zone)?, one(command)?, one(ac)?);
+    let (form, number, state) = (one(form)?, signed(number)?, one(state)?);
+    let says = match form {
+        0x00 => Some(Says::Request),
+        0x01 => Some(Says::Up),
+        0x02 => Some(Says::Down),
+        0x03 => Some(Says::On),
+        0x04 => Some(Says::Off),
+        0x05 => Some(Says::Toggle),
+        0x06 => Some(Says::LevellerOff),
+        0x07 => Some(Says::Number(number)),
+        0x08 => Some(Says::Input {
+            input: number.to_be_bytes()[1],
+            on: state != 0x00,
+        }),
+        _ => None,
+    };
+    match one(kind)? {
+        b'C' => Some(Message::Command {
+            zone,
+            command,
+            says: says?,
+        }),
+        b'S' => Some(Message::Status {
+            zone,
+            command,
+            says: says?,
+        }),
+        // In a denied message FORM is not looked at.
+        b'D' => Some(Message::Denied {
+            zone,
+            command,
+            answer_code,
+            data,
+        }),
+        _ => None,
+    }
+}
+
+pub(super) fn write(p: u8, length: usize, place: u64, message: Message) -> Reply {
+    written(length, place, || {
+        Ok(message::bytes(profile_of(p)?, message)?)
+    })
+}
+
+pub(super) fn send(p: u8, d: u8, length: usize, place: u64, frame: Frame) -> Reply {
+    written(length, place, || {
+        let (profile, direction) = (profile_of(p)?, direction_of(d)?);
+        let message = message::read(profile, direction, frame)?;
+        Ok(message::bytes(profile, message)?)
+    })
+}
+
+pub(super) fn raw(d: u8, length: usize, place: u64, frame: Frame) -> Reply {
+    written(length, place, || Ok(frame.bytes(direction_of(d)?)?))
+}
+
+pub(super) fn code(code: Option<u8>) -> String {
+    match code {
+        Some(code) => text::hex(&[code]),
+        None => "none".to_string(),
+    }
+}
+
+pub(super) fn row(p: u8, command: u8) -> Answer {
+    Ok(match rows::find(profile_of(p)?, command) {
+        Some(_) => "row".to_string(),
+        None => "none".to_string(),
+    })
+}
+
+/// How many messages were accepted, and how many got each refusal.
+#[derive(Default)]
+struct Counts {
+    accepted: u32,
+    refused: [u32; 5],
+}
+
+impl Counts {
+    /// Reads with answer code 00, and prints and counts what comes of it.
+    fn read(
+        &mut self,
+        text: &mut String,
+        profile: Profile,
+        direction: Direction,
+        (zone, command): (u8, u8),
+        data: &[u8],
+    ) {
+        let frame = frame_of(zone, command, 0x00, data);
+        match message::read(profile, direction, frame) {
+            Ok(Message::Command { says, .. } | Message::Status { says, .. }) => {
+                self.accepted += 1;
+                let _ = writeln!(
+                    text,
+                    "{zone:02X} {command:02X} {} {}",
+                    text::hex(data),
+                    print_says(says)
+                );
+            }
+            // None is denied with answer code 00.
+            Ok(Message::Denied { .. }) => {}
+            Err(number) => self.refused[usize::from(number) - 1] += 1,
+        }
+    }
+
+    fn print(&self, text: &mut String) {
+        let _ = write!(text, "accepted {} refused", self.accepted);
+        for (index, count) in self.refused.iter().enumerate() {
+            let _ = write!(text, " {}:{count}", index + 1);
+        }
+    }
+}
+
+pub(super) fn all(p: u8, d: u8) -> Answer {
+    let (profile, direction) = (profile_of(p)?, direction_of(d)?);
+    let mut counts = Counts::default();
+    let mut text = String::new();
+    for zone in 0..=255 {
+        for command in 0..=255 {
+            for byte in 0..=255 {
+                counts.read(&mut text, profile, direction, (zone, command), &[byte]);
+            }
+        }
+    }
+    counts.print(&mut text);
+    Ok(text)
+}
+
+pub(super) fn pairs(d: u8) -> Answer {
+    let direction = direction_of(d)?;
+    let mut counts = Counts::default();
+    let mut text = String::new();
+    for first in 0..=255 {
+        for second in 0..=255 {
+            counts.read(
+                &mut text,
+                Profile::S,
+                direction,
+                (1, 0x0F),
+                &[first, second],
+            );
+        }
+    }
+    counts.print(&mut text);
+    Ok(text)
+}
+
+pub(super) fn codes(p: u8, zone: u8, command: u8, data: &[u8]) -> Answer {
+    let profile = profile_of(p)?;
+    let lines: Vec<String> = (0..=255u8)
+        .map(|answer_code| {
+            let frame = frame_of(zone, command, answer_code, data);
+            match message::read(profile, Direction::Answer, frame) {
+                Ok(message) => format!("{answer_code:02X} {}", print_message(message)),
+                Err(number) => format!("{answer_code:02X} refused {number}"),
+            }
+        })
+        .collect();
+    Ok(lines.join("\n"))
+}

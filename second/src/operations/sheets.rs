@@ -1,0 +1,89 @@
+//! Operations on sheets and the tracker.
+
+use super::{profile_of, written, Answer, Refusal, Reply};
+use crate::frame;
+use crate::rows::Profile;
+use crate::sheet::{self, Fault, Line};
+use crate::tally::{Kind, Tally};
+use crate::text;
+use crate::tracker::Tracker;
+
+/// A refusal of an operation on sheets that is no line's fault.
+fn at_zero(number: u8) -> Refusal {
+    Refusal {
+        number,
+        at: Some(0),
+    }
+}
+
+pub(super) fn legal(p: u8, line: Line) -> Answer {
+    Ok(match sheet::legal(profile_of(p)?, line) {
+        true => "legal".to_string(),
+        false => "not legal".to_string(),
+    })
+}
+
+pub(super) fn check(p: u8, file: &[u8]) -> Answer {
+    let profile = profile_of(p).map_err(at_zero)?;
+    let lines = sheet::read_file(profile, file)?;
+    let printed: Vec<String> = lines
+        .iter()
+        .map(|line| text::hex(&[line.zone, line.command, line.value]))
+        .collect();
+    Ok(match lines.len() {
+        0 => "accepted 0 : -".to_string(),
+        count => format!("accepted {count} : {}", printed.join(" ")),
+    })
+}
+
+/// Reads a sheet file and writes its copy or its run.
+pub(super) fn sheet_bytes(
+    p: u8,
+    length: usize,
+    place: u64,
+    file: &[u8],
+    bytes: fn(Profile, &[Line]) -> Result<Vec<u8>, Fault>,
+) -> Reply {
+    let mut reply = written(length, place, || {
+        let profile = profile_of(p)?;
+        let lines = sheet::read_file(profile, file)?;
+        Ok(bytes(profile, &lines)?)
+    });
+    // Operations on sheets print a place with every refusal.
+    if let Err(refusal) = &mut reply.answer {
+        refusal.at = refusal.at.or(Some(0));
+    }
+    reply
+}
+
+pub(super) fn sign(p: u8, file: &[u8], capture: &[u8], tally: &mut Tally) -> Answer {
+    let signed = sign_off(p, file, capture);
+    let result = match signed {
+        Ok(true) => "signed",
+        Ok(false) => "not signed",
+        Err(_) => "refused",
+    };
+    tally.count(Kind::SignOff(result));
+    signed.map(|_| result.to_string())
+}
+
+fn sign_off(p: u8, file: &[u8], capture: &[u8]) -> Result<bool, Refusal> {
+    let profile = profile_of(p).map_err(at_zero)?;
+    frame::check_capture(capture).map_err(at_zero)?;
+    let lines = sheet::read_file(profile, file)?;
+    let mut tracker = Tracker::new(profile);
+    tracker.feed_capture(capture);
+    Ok(tracker.signs_off(&lines))
+}
+
+pub(super) fn cell(p: u8, capture: &[u8], zone: u8, command: u8) -> Answer {
+    let profile = profile_of(p)?;
+    frame::check_capture(capture)?;
+    let mut tracker = Tracker::new(profile);
+    tracker.feed_capture(capture);
+    Ok(match tracker.cell(zone, command) {
+        None => "no cell".to_string(),
+        Some(None) => "unknown".to_string(),
+        Some(Some(value)) => format!("value {value:02X}"),
+    })
+}

@@ -1,0 +1,505 @@
+//! The pulled plug: runs cut anywhere, sent to a unit that stopped anywhere.
+
+use std::fmt::Write as _;
+
+use crate::frame::{Direction, DATA_LIMIT, END, OPENING};
+use crate::random::Random;
+use crate::rows::{self, Codes, Profile, ROWS, ZONES};
+use crate::samples::{self, PROFILES};
+use crate::sheet::{self, Line};
+use crate::text;
+use crate::unit::{Settings, Unit};
+
+/// Scenarios of random cuts for each sheet.
+const RANDOM_SCENARIOS: usize = 6;
+
+/// Keeps the scenarios' random numbers apart from the sheets'.
+const SCENARIO_SEED: u64 = 0x5343_454E_4152_494F;
+
+struct Sheet {
+    profile: Profile,
+    lines: Vec<Line>,
+}
+
+/// Accepted sheets of both profiles and all sizes.
+fn sheets(seed: u64, count: usize) -> Vec<Sheet> {
+    let mut random = Random::new(seed);
+    (0..count)
+        .map(|index| {
+            let profile = PROFILES[index % PROFILES.len()];
+            let size = index / PROFILES.len() % (samples::most_lines(profile) + 1);
+            let lines = samples::sheet(&mut random, profile, size);
+            Sheet { profile, lines }
+        })
+        .collect()
+}
+
+impl Sheet {
+    fn file(&self) -> String {
+        text::hex(&sheet::records(self.profile, &self.lines))
+    }
+
+    fn operation(&self) -> String {
+        format!("run {:02X} 0148 - {}", self.profile.letter(), self.file())
+    }
+}
+
+/// The operations that write the runs, a line each.
+pub fn runs(seed: u64, count: usize) -> String {
+    let mut text = String::new();
+    for sheet in sheets(seed, count) {
+        text.push_str(&sheet.operation());
+        text.push('\n');
+    }
+    text
+}
+
+/// Why the check stopped.
+pub enum Failure {
+    /// The files do not belong together.
+    WrongUse(String),
+    /// A run was not printed, or a setting was wrong.
+    Wrong(String),
+}
+
+/// The operations for a tracker and what they must print, and what was done.
+#[derive(Default)]
+pub struct Outcome {
+    pub ops: String,
+    pub expected: String,
+    pub sheets: usize,
+    pub cuts: u64,
+    pub bytes: u64,
+    pub cells: u64,
+}
+
+impl Outcome {
+    fn expect(&mut self, operation: &str, printed: &str) {
+        self.ops.push_str(operation);
+        self.ops.push('\n');
+        self.expected.push_str(printed);
+        self.expected.push('\n');
+    }
+}
+
+/// What settings a unit may have: its starting ones, or the sheet's where it names them.
+struct Watch {
+    start: Settings,
+    wanted: [[Option<u8>; ZONES]; ROWS.len()],
+}
+
+impl Watch {
+    fn new(sheet: &Sheet, start: Settings) -> Watch {
+        let mut wanted = [[None; ZONES]; ROWS.len()];
+        for line in &sheet.lines {
+            if let Some(row) = rows::find(sheet.profile, line.command) {
+                wanted[row][usize::from(line.zone) - 1] = Some(line.value);
+            }
+        }
+        Watch { start, wanted }
+    }
+
+    /// At every moment; after a full run `done` asks for the sheet's values.
+    fn check(&self, now: &Settings, done: bool) -> Result<(), String> {
+        if now.direct != self.start.direct || now.current != self.start.current {
+            return Err("S 0F changed".to_string());
+        }
+        for (index, row) in ROWS.iter().enumerate() {
+            for zone in 0..ZONES {
+                let value = now.values[index][zone];
+                let start = self.start.values[index][zone];
+                let good = match self.wanted[index][zone] {
+                    Some(wanted) => value == wanted || (!done && value == start),
+                    None => value == start,
+                };
+                if !good {
+                    let wanted = match self.wanted[index][zone] {
+                        Some(wanted) => format!("the sheet says {wanted:02X}"),
+                        None => "the sheet does not name it".to_string(),
+                    };
+                    return Err(format!(
+                        "zone {} row {:02X} ({}) is {value:02X}, started at {start:02X}, {wanted}",
+                        zone + 1,
+                        row.command,
+                        row.name
+                    ));
+                }
+            }
+        }
+        Ok(())
+    }
+}
+
+/// A unit and all the answers that it gave.
+#[derive(Clone)]
+struct Session {
+    unit: Unit,
+    answers: Vec<u8>,
+    /// Cells that got a status answer.
+    answered: [[bool; ZONES]; ROWS.len()],
+}
+
+impl Session {
+    fn new(unit: Unit) -> Session {
+        Session {
+            unit,
+            answers: Vec::new(),
+            answered: [[false; ZONES]; ROWS.len()],
+        }
+    }
+
+    /// Feeds one byte; says whether a frame was completed, as only that can change a setting.
+    fn feed(&mut self, profile: Profile, byte: u8) -> bool {
+        let Some(answer) = self.unit.take(byte) else {
+            return false;
+        };
+        // Zone, command and answer code of the answer.
+        if answer[3] == 0x00 {
+            if let Some(row) = rows::find(profile, answer[2]) {
+                self.answered[row][usize::from(answer[1]) - 1] = true;
+            }
+        }
+        self.answers.extend(answer);
+        true
+    }
+
+    /// Sends bytes and watches after each that completes a frame.
+    fn send(
+        &mut self,
+        profile: Profile,
+        watch: &Watch,
+        bytes: &[u8],
+        outcome: &mut Outcome,
+    ) -> Result<(), String> {
+        outcome.bytes += bytes.len() as u64;
+        for (index, &byte) in bytes.iter().enumerate() {
+            if self.feed(profile, byte) {
+                watch
+                    .check(&self.unit.settings, false)
+                    .map_err(|wrong| format!("after byte {} of a sending: {wrong}", index + 1))?;
+            }
+        }
+        Ok(())
+    }
+
+    /// Sends a full run, after which the sheet's values must be set.
+    fn finish(
+        &mut self,
+        profile: Profile,
+        watch: &Watch,
+        run: &[u8],
+        outcome: &mut Outcome,
+    ) -> Result<(), String> {
+        self.send(profile, watch, run, outcome)?;
+        watch
+            .check(&self.unit.settings, true)
+            .map_err(|wrong| format!("after the last full run: {wrong}"))
+    }
+
+    /// Writes what a tracker must tell after these answers.
+    fn tell(&self, profile: Profile, outcome: &mut Outcome) {
+        let p = profile.letter();
+        let capture = text::hex(&self.answers);
+        let mut places = Vec::new();
+        for row in samples::rows_of(profile) {
+            places.extend((1..=profile.zones()).map(|zone| (zone, row.command)));
+        }
+        // Some that have no cell.
+        let other = profile.zones() + 1;
+        let foreign = PROFILES.iter().find(|&&other| other != profile);
+        places.extend([(0, 0x44), (other, 0x44), (255, 0x37), (1, 0x99), (1, 0x00)]);
+        places.extend(foreign.map(|&foreign| (1, foreign_command(foreign))));
+        for (zone, command) in places {
+            let printed = self.truth(profile, zone, command);
+            let operation = format!("cell {p:02X} {capture} {zone:02X} {command:02X}");
+            outcome.expect(&operation, &printed);
+            outcome.cells += 1;
+        }
+    }
+
+    fn truth(&self, profile: Profile, zone: u8, command: u8) -> String {
+        let cell = rows::find(profile, command)
+            .filter(|&row| ROWS[row].has_zone(zone) && ROWS[row].codes != Codes::Pair);
+        let Some(row) = cell else {
+            return "no cell".to_string();
+        };
+        let zone = usize::from(zone) - 1;
+        match self.answered[row][zone] {
+            true => format!("value {:02X}", self.unit.settings.values[row][zone]),
+            false => "unknown".to_string(),
+        }
+    }
+}
+
+/// A command that only this profile has.
+fn foreign_command(profile: Profile) -> u8 {
+    match profile {
+        Profile::A => 0x38,
+        Profile::S => 0x5C,
+    }
+}
+
+/// Bytes after which a reader is stopped anywhere, without a completed frame.
+fn stopped(random: &mut Random) -> Vec<u8> {
+    let data_length = match random.below(4) {
+        0 => DATA_LIMIT,
+        1 => random.below(4),
+        _ => random.below(DATA_LIMIT + 1),
+    };
+    let mut bytes = vec![OPENING, random.byte(), random.byte(), data_length as u8];
+    match random.below(8) {
+        // Outside, with noise or without.
+        0 => {
+            let count = random.below(5);
+            let mut noise = random.bytes(count);
+            noise.retain(|&byte| byte != OPENING);
+            return noise;
+        }
+        // In the header.
+        1 => bytes.truncate(random.between(1, 3)),
+        // Outside, after a broken frame.
+        2 => {
+            bytes.extend(samples::mixed(random, data_length));
+            bytes.push(END + 1);
+        }
+        // At the end place.
+        3 => bytes.extend(samples::mixed(random, data_length)),
+        // Just after Dl.
+        4 => {}
+        _ => {
+            let count = random.between(0, data_length);
+            bytes.extend(samples::mixed(random, count));
+        }
+    }
+    bytes
+}
+
+/// A unit with random settings whose reader is stopped after a prefix.
+fn started(random: &mut Random, profile: Profile, prefix: &[u8]) -> Unit {
+    let mut unit = Unit::new(profile, Settings::random(random, profile));
+    for &byte in prefix {
+        let answer = unit.take(byte);
+        assert!(answer.is_none(), "a prefix completes no frame");
+    }
+    unit
+}
+
+/// The run that an answer to `run` holds.
+fn printed_run(printed: &str) -> Option<Vec<u8>> {
+    let (count, buffer) = printed.strip_prefix("bytes ")?.split_once(" : ")?;
+    let count: usize = count.parse().ok()?;
+    let buffer = text::bytes(buffer.as_bytes())?;
+    Some(buffer.get(..count)?.to_vec())
+}
+
+/// Checks every sheet's run, and writes what a tracker must tell.
+pub fn plug(seed: u64, count: usize, ops: &str, printed: &str) -> Result<Outcome, Failure> {
+    let sheets = sheets(seed, count);
+    let ops: Vec<&str> = ops.lines().collect();
+    let printed: Vec<&str> = printed.lines().collect();
+    if ops.len() != count || printed.len() != count {
+        return Err(Failure::WrongUse(format!(
+            "{count} sheets, but RUNS has {} lines and OUTPUT {}",
+            ops.len(),
+            printed.len()
+        )));
+    }
+    let mut random = Random::new(seed ^ SCENARIO_SEED);
+    let mut outcome = Outcome::default();
+    for (index, sheet) in sheets.iter().enumerate() {
+        if ops[index] != sheet.operation() {
+            return Err(Failure::WrongUse(format!(
+                "line {} of RUNS is not of this seed",
+                index + 1
+            )));
+        }
+        let describe = |wrong: String| {
+            Failure::Wrong(format!(
+                "seed {seed}, sheet {index} (profile {}, file {}): {wrong}",
+                sheet.profile.letter() as char,
+                sheet.file()
+            ))
+        };
+        let Some(run) = printed_run(printed[index]) else {
+            return Err(describe(format!("OUTPUT has no run: {}", printed[index])));
+        };
+        scenarios(&mut random, sheet, &run, &mut outcome).map_err(describe)?;
+        outcome.sheets += 1;
+    }
+    Ok(outcome)
+}
+
+/// All scenarios of one sheet; one of them is told to the tracker.
+fn scenarios(
+    random: &mut Random,
+    sheet: &Sheet,
+    run: &[u8],
+    outcome: &mut Outcome,
+) -> Result<(), String> {
+    let prefix = stopped(random);
+    let every = every_cut(random, sheet, run, &prefix, outcome)?;
+    // The longest wait: Dl 255 was just read.
+    let longest = [OPENING, random.byte(), random.byte(), 0xFF];
+    every_cut(random, sheet, run, &longest, outcome)?;
+    let mut some = random_cuts(random, sheet, run, outcome)?;
+    for _ in 1..RANDOM_SCENARIOS {
+        some = random_cuts(random, sheet, run, outcome)?;
+    }
+    let after = after_commands(random, sheet, run, outcome)?;
+    let told = *random.pick(&[&every, &some, &after]);
+    told.tell(sheet.profile, outcome);
+    let operation = format!(
+        "sign {:02X} {} {}",
+        sheet.profile.letter(),
+        sheet.file(),
+        text::hex(&told.answers)
+    );
+    outcome.expect(&operation, "signed");
+    Ok(())
+}
+
+/// One sending cut after every byte, each time followed by a full run; gives one of these.
+fn every_cut(
+    random: &mut Random,
+    sheet: &Sheet,
+    run: &[u8],
+    prefix: &[u8],
+    outcome: &mut Outcome,
+) -> Result<Session, String> {
+    let unit = started(random, sheet.profile, prefix);
+    let watch = Watch::new(sheet, unit.settings.clone());
+    let chosen = random.between(0, run.len());
+    let mut told = None;
+    let mut first = Session::new(unit);
+    for cut in 0..=run.len() {
+        let describe = |wrong: String| {
+            let prefix = text::hex(prefix);
+            format!("stopped after {prefix}, one sending cut after {cut} bytes: {wrong}")
+        };
+        if cut > 0 {
+            first
+                .send(sheet.profile, &watch, &run[cut - 1..cut], outcome)
+                .map_err(describe)?;
+        }
+        let mut session = first.clone();
+        session
+            .finish(sheet.profile, &watch, run, outcome)
+            .map_err(describe)?;
+        outcome.cuts += 1;
+        if cut == chosen {
+            told = Some(session);
+        }
+    }
+    Ok(told.unwrap_or(first))
+}
+
+/// A few sendings cut anywhere, one after another, then a full run.
+fn random_cuts(
+    random: &mut Random,
+    sheet: &Sheet,
+    run: &[u8],
+    outcome: &mut Outcome,
+) -> Result<Session, String> {
+    let prefix = stopped(random);
+    let unit = started(random, sheet.profile, &prefix);
+    let watch = Watch::new(sheet, unit.settings.clone());
+    let mut session = Session::new(unit);
+    let mut story = format!("stopped after {}", text::hex(&prefix));
+    for _ in 0..random.between(0, 5) {
+        // Half of the cuts are where the frames are.
+        let from = match random.percent(50) {
+            true => run.len().min(sheet::RUN_ZEROS),
+            false => 0,
+        };
+        let cut = random.between(from, run.len());
+        let _ = write!(story, ", a sending cut after {cut} bytes");
+        session
+            .send(sheet.profile, &watch, &run[..cut], outcome)
+            .map_err(|wrong| format!("{story}: {wrong}"))?;
+        outcome.cuts += 1;
+    }
+    session
+        .finish(sheet.profile, &watch, run, outcome)
+        .map_err(|wrong| format!("{story}, a full run: {wrong}"))?;
+    Ok(session)
+}
+
+/// Other commands first, good and bad, left unfinished; then a full run.
+fn after_commands(
+    random: &mut Random,
+    sheet: &Sheet,
+    run: &[u8],
+    outcome: &mut Outcome,
+) -> Result<Session, String> {
+    let prefix = stopped(random);
+    let unit = started(random, sheet.profile, &prefix);
+    let mut session = Session::new(unit);
+    let length = random.between(0, 400);
+    let commands = samples::capture(random, sheet.profile, Direction::Command, length);
+    // These may change settings that the sheet does not name.
+    for &byte in &commands {
+        session.feed(sheet.profile, byte);
+    }
+    outcome.bytes += commands.len() as u64;
+    let watch = Watch::new(sheet, session.unit.settings.clone());
+    session
+        .finish(sheet.profile, &watch, run, outcome)
+        .map_err(|wrong| {
+            let (prefix, commands) = (text::hex(&prefix), text::hex(&commands));
+            format!("stopped after {prefix}, commands {commands}, a full run: {wrong}")
+        })?;
+    Ok(session)
+}
+
+#[cfg(test)]
+mod tests {
+    use super::*;
+    use crate::operations;
+    use crate::tally::Tally;
+
+    fn print(ops: &str) -> String {
+        let mut printed = String::new();
+        for line in ops.lines() {
+            operations::run(line.as_bytes(), &mut printed, &mut Tally::default());
+        }
+        printed
+    }
+
+    #[test]
+    fn own_runs_end_at_the_sheet_and_the_tracker_tells_the_truth() {
+        let ops = runs(3, 40);
+        let Ok(outcome) = plug(3, 40, &ops, &print(&ops)) else {
+            panic!("a wrong setting");
+        };
+        assert_eq!(outcome.sheets, 40);
+        assert_eq!(print(&outcome.ops), outcome.expected);
+    }
+
+    #[test]
+    fn a_run_with_too_few_zeros_is_found() {
+        let ops = runs(3, 40);
+        let short: String = ops
+            .lines()
+            .map(|line| {
+                let printed = print(line);
+                let run = printed_run(printed.trim_end()).unwrap();
+                let run = &run[2..];
+                format!("bytes {} : {}\n", run.len(), text::hex(run))
+            })
+            .collect();
+        assert!(matches!(plug(3, 40, &ops, &short), Err(Failure::Wrong(_))));
+    }
+
+    #[test]
+    fn files_that_do_not_belong_together_are_wrong_use() {
+        let ops = runs(3, 4);
+        assert!(matches!(
+            plug(4, 4, &ops, &print(&ops)),
+            Err(Failure::WrongUse(_))
+        ));
+        assert!(matches!(
+            plug(3, 5, &ops, &print(&ops)),
+            Err(Failure::WrongUse(_))
+        ));
+    }
+}

@@ -1,0 +1,359 @@
+//! The commands of the two profiles, as the table of rows.
+
+use crate::frame::Direction;
+
+#[derive(Clone, Copy, PartialEq, Eq, PartialOrd, Ord, Debug)]
+pub enum Profile {
+    A,
+    S,
+}
+
+impl Profile {
+    pub fn from_letter(letter: u8) -> Option<Profile> {
+        match letter {
+            b'A' => Some(Profile::A),
+            b'S' => Some(Profile::S),
+            _ => None,
+        }
+    }
+
+    pub fn letter(self) -> u8 {
+        match self {
+            Profile::A => b'A',
+            Profile::S => b'S',
+        }
+    }
+
+    /// The last zone; the first is 1.
+    pub fn zones(self) -> u8 {
+        match self {
+            Profile::A => 3,
+            Profile::S => 2,
+        }
+    }
+
+    pub fn has_zone(self, zone: u8) -> bool {
+        (1..=self.zones()).contains(&zone)
+    }
+}
+
+/// The most zones that a profile has.
+pub const ZONES: usize = 3;
+
+/// The inputs of S 0F.
+pub const INPUTS: [u8; 5] = [0x01, 0x02, 0x03, 0x05, 0x06];
+
+/// What the data of a command or a status answer say.
+#[derive(Clone, Copy, PartialEq, Eq, Debug)]
+pub enum Says {
+    Request,
+    Up,
+    Down,
+    /// A 37.
+    On,
+    /// A 37.
+    Off,
+    Toggle,
+    LevellerOff,
+    Number(i16),
+    /// S 0F.
+    Input {
+        input: u8,
+        on: bool,
+    },
+}
+
+impl Says {
+    /// How many data bytes it counts as, also a number without a code.
+    pub fn length(self) -> usize {
+        match self {
+            Says::Input { .. } => 2,
+            _ => 1,
+        }
+    }
+}
+
+/// The zones of a row.
+#[derive(Clone, Copy, PartialEq, Eq)]
+pub enum Zones {
+    All,
+    One,
+}
+
+/// How a row's codes are read.
+#[derive(Clone, Copy, PartialEq, Eq)]
+pub enum Codes {
+    /// A code means itself.
+    Plain,
+    /// 81 to FF mean minus (code less 80 hex).
+    Signed,
+    /// A code means itself, FF is off.
+    Leveller,
+    /// Two bytes, an input and 00 or 01.
+    Pair,
+}
+
+/// The mark of a sheet row.
+#[derive(Clone, Copy, PartialEq, Eq)]
+pub enum Mark {
+    Sheet,
+    Not,
+}
+
+/// First and last code of each stretch of legal codes.
+type Ranges = &'static [(u8, u8)];
+
+/// Command codes that set no given value.
+type Orders = &'static [(u8, Says)];
+
+const REQUEST: Orders = &[(0xF0, Says::Request)];
+const ON_OFF: Orders = &[(0xF0, Says::Request), (0xF1, Says::On), (0xF2, Says::Off)];
+const STEPS: Orders = &[(0xF0, Says::Request), (0xF1, Says::Up), (0xF2, Says::Down)];
+const TOGGLE: Orders = &[(0x02, Says::Toggle), (0xF0, Says::Request)];
+
+pub struct Row {
+    pub profile: Profile,
+    pub command: u8,
+    pub name: &'static str,
+    pub zones: Zones,
+    pub codes: Codes,
+    pub mark: Mark,
+    settings: Ranges,
+    orders: Orders,
+    answers: Ranges,
+}
+
+use Codes::{Leveller, Pair, Plain, Signed};
+use Mark::{Not, Sheet};
+use Profile::{A, S};
+use Zones::{All, One};
+
+/// The rows in the document's order.
+#[rustfmt::skip]
+pub static ROWS: [Row; 19] = [
+    // command   name                  zone codes     mark   settings                       orders   answers
+    row(A, 0x0F, "direct",             One, Plain,    Not,   &[],                           REQUEST, &[(0x00, 0x01)]),
+    row(A, 0x10, "decode 2ch",         One, Plain,    Not,   &[],                           REQUEST, &[(0x00, 0x08)]),
+    row(A, 0x11, "decode MCH",         One, Plain,    Not,   &[],                           REQUEST, &[(0x00, 0x05)]),
+    row(A, 0x37, "room EQ",            All, Plain,    Not,   &[],                           ON_OFF,  &[(0x00, 0x02)]),
+    row(A, 0x38, "Dolby Volume",       All, Plain,    Sheet, &[(0x00, 0x02)],               REQUEST, &[(0x00, 0x02)]),
+    row(A, 0x39, "Leveller",           All, Leveller, Sheet, &[(0x00, 0x0A), (0xFF, 0xFF)], STEPS,   &[(0x00, 0x0A), (0xFF, 0xFF)]),
+    row(A, 0x3A, "calibration offset", All, Signed,   Sheet, &[(0x00, 0x0F), (0x81, 0x8F)], STEPS,   &[(0x00, 0x0F), (0x81, 0x8F)]),
+    row(A, 0x44, "sample rate",        All, Plain,    Not,   &[],                           REQUEST, &[(0x00, 0x08)]),
+    row(A, 0x45, "sub trim",           All, Signed,   Sheet, &[(0x00, 0x00), (0x81, 0x8A)], STEPS,   &[(0x00, 0x00), (0x81, 0x8A)]),
+    row(A, 0x46, "picture brightness", All, Signed,   Sheet, &[(0x00, 0x0A), (0x81, 0x8A)], STEPS,   &[(0x00, 0x0A), (0x81, 0x8A)]),
+    row(S, 0x0D, "volume",             All, Plain,    Sheet, &[(0x00, 0x63)],               STEPS,   &[(0x00, 0x63)]),
+    row(S, 0x0E, "mute",               All, Plain,    Sheet, &[(0x00, 0x01)],               TOGGLE,  &[(0x00, 0x01)]),
+    row(S, 0x0F, "direct",             One, Pair,     Not,   &[],                           REQUEST, &[]),
+    row(S, 0x37, "room EQ",            All, Plain,    Not,   &[(0x00, 0x06)],               REQUEST, &[(0x00, 0x06), (0xA0, 0xA0)]),
+    row(S, 0x3B, "balance",            All, Signed,   Not,   &[],                           REQUEST, &[(0x00, 0x0C), (0x81, 0x8C)]),
+    row(S, 0x44, "sample rate",        All, Plain,    Not,   &[],                           REQUEST, &[(0x00, 0x0A)]),
+    row(S, 0x5A, "input detect",       All, Plain,    Not,   &[],                           REQUEST, &[(0x00, 0x01)]),
+    row(S, 0x5B, "processor input",    All, Plain,    Sheet, &[(0x00, 0x00), (0x02, 0x09)], REQUEST, &[(0x00, 0x00), (0x02, 0x09)]),
+    row(S, 0x5C, "processor volume",   All, Plain,    Sheet, &[(0x00, 0x63)],               REQUEST, &[(0x00, 0x63)]),
+];
+
+#[allow(clippy::too_many_arguments)]
+const fn row(
+    profile: Profile,
+    command: u8,
+    name: &'static str,
+    zones: Zones,
+    codes: Codes,
+    mark: Mark,
+    settings: Ranges,
+    orders: Orders,
+    answers: Ranges,
+) -> Row {
+    Row {
+        profile,
+        command,
+        name,
+        zones,
+        codes,
+        mark,
+        settings,
+        orders,
+        answers,
+    }
+}
+
+/// The place in the table of a profile's command.
+pub fn find(profile: Profile, command: u8) -> Option<usize> {
+    ROWS.iter()
+        .position(|row| row.profile == profile && row.command == command)
+}
+
+impl Row {
+    pub fn has_zone(&self, zone: u8) -> bool {
+        match self.zones {
+            Zones::All => self.profile.has_zone(zone),
+            Zones::One => zone == 1,
+        }
+    }
+
+    /// Whether the row has data of that length in that direction.
+    pub fn has_length(&self, direction: Direction, length: usize) -> bool {
+        match (self.codes, direction) {
+            (Codes::Pair, Direction::Command) => length == 1 || length == 2,
+            (Codes::Pair, Direction::Answer) => length == 2,
+            _ => length == 1,
+        }
+    }
+
+    /// What the data say, or 3 or 4.
+    pub fn says(&self, direction: Direction, data: &[u8]) -> Result<Says, u8> {
+        if !self.has_length(direction, data.len()) {
+            return Err(3);
+        }
+        match *data {
+            [code] => self.code_says(direction, code).ok_or(4),
+            [input, state] if INPUTS.contains(&input) && state <= 0x01 => Ok(Says::Input {
+                input,
+                on: state == 0x01,
+            }),
+            _ => Err(4),
+        }
+    }
+
+    fn code_says(&self, direction: Direction, code: u8) -> Option<Says> {
+        let ranges = match direction {
+            Direction::Command => {
+                if let Some(order) = self.orders.iter().find(|order| order.0 == code) {
+                    return Some(order.1);
+                }
+                self.settings
+            }
+            Direction::Answer => self.answers,
+        };
+        if !holds(ranges, code) {
+            return None;
+        }
+        Some(match self.codes {
+            Codes::Signed => Says::Number(number_of(code)),
+            Codes::Leveller if code == 0xFF => Says::LevellerOff,
+            _ => Says::Number(i16::from(code)),
+        })
+    }
+
+    /// The data that say it, or 3 or 4 where the row cannot say it in that direction.
+    pub fn data(&self, direction: Direction, says: Says) -> Result<Vec<u8>, u8> {
+        if !self.has_length(direction, says.length()) {
+            return Err(3);
+        }
+        let data = match says {
+            Says::Request => vec![0xF0],
+            Says::Up | Says::On => vec![0xF1],
+            Says::Down | Says::Off => vec![0xF2],
+            Says::Toggle => vec![0x02],
+            Says::LevellerOff => vec![0xFF],
+            Says::Number(number) => vec![self.code(number).ok_or(4)?],
+            Says::Input { input, on } => vec![input, u8::from(on)],
+        };
+        // A code can be legal and say another thing, as 240 in a row with F0.
+        if self.says(direction, &data)? != says {
+            return Err(4);
+        }
+        Ok(data)
+    }
+
+    /// The code of a number in this row.
+    pub fn code(&self, number: i16) -> Option<u8> {
+        match self.codes {
+            Codes::Signed => signed_code(number),
+            _ => plain_code(number),
+        }
+    }
+
+    /// The number of a code in this row.
+    pub fn number(&self, code: u8) -> i16 {
+        match self.codes {
+            Codes::Signed => number_of(code),
+            _ => i16::from(code),
+        }
+    }
+
+    /// Whether a status answer may hold that one byte.
+    pub fn has_answer(&self, value: u8) -> bool {
+        holds(self.answers, value)
+    }
+
+    /// Whether it is a sheet row with that setting code.
+    pub fn has_sheet_value(&self, value: u8) -> bool {
+        self.mark == Mark::Sheet && holds(self.settings, value)
+    }
+}
+
+fn holds(ranges: Ranges, code: u8) -> bool {
+    ranges
+        .iter()
+        .any(|&(first, last)| (first..=last).contains(&code))
+}
+
+/// The number that a code means in a signed row; at 80 minus nothing, 0.
+pub fn number_of(code: u8) -> i16 {
+    if code <= 0x7F {
+        i16::from(code)
+    } else {
+        0x80 - i16::from(code)
+    }
+}
+
+/// The code of a number in a signed row; 0 is 00 and never 80.
+pub fn signed_code(number: i16) -> Option<u8> {
+    match number {
+        0..=127 => Some(number as u8),
+        -127..=-1 => Some((0x80 - number) as u8),
+        _ => None,
+    }
+}
+
+/// The code of a number in a row that is not signed.
+pub fn plain_code(number: i16) -> Option<u8> {
+    u8::try_from(number).ok()
+}
+
+#[cfg(test)]
+mod tests {
+    use super::*;
+
+    #[test]
+    fn signed_codes_at_the_ends() {
+        for (code, number) in [(0x00, 0), (0x7F, 127), (0x80, 0), (0x81, -1), (0xFF, -127)] {
+            assert_eq!(number_of(code), number);
+        }
+        assert_eq!(signed_code(0), Some(0x00));
+        assert_eq!(signed_code(-127), Some(0xFF));
+        assert_eq!(signed_code(-128), None);
+        assert_eq!(signed_code(128), None);
+        assert_eq!(plain_code(255), Some(0xFF));
+        assert_eq!(plain_code(256), None);
+        assert_eq!(plain_code(-1), None);
+    }
+
+    #[test]
+    fn no_row_has_80_and_sheet_values_are_answers() {
+        for row in &ROWS {
+            for direction in [Direction::Command, Direction::Answer] {
+                assert!(row.says(direction, &[0x80]).is_err());
+            }
+            if row.mark == Mark::Sheet {
+                assert!((0..=255).all(|v| row.has_sheet_value(v) == row.has_answer(v)));
+                assert!(row.zones == Zones::All);
+            }
+        }
+    }
+
+    #[test]
+    fn data_that_are_said_read_back() {
+        for row in &ROWS {
+            for direction in [Direction::Command, Direction::Answer] {
+                for code in 0..=255 {
+                    if let Ok(says) = row.says(direction, &[code]) {
+                        assert_eq!(row.data(direction, says), Ok(vec![code]));
+                    }
+                }
+            }
+        }
+    }
+}

@@ -1,0 +1,241 @@
+//! Random frames, captures and sheets.
+
+use crate::frame::{Direction, Frame, DATA_LIMIT, END, OPENING};
+use crate::random::Random;
+use crate::rows::{Codes, Mark, Profile, Row, Says, INPUTS, ROWS};
+use crate::sheet::Line;
+
+pub const PROFILES: [Profile; 2] = [Profile::A, Profile::S];
+pub const DIRECTIONS: [Direction; 2] = [Direction::Command, Direction::Answer];
+
+/// The rows of a profile.
+pub fn rows_of(profile: Profile) -> Vec<&'static Row> {
+    ROWS.iter().filter(|row| row.profile == profile).collect()
+}
+
+/// A zone that the row has.
+pub fn zone(random: &mut Random, row: &Row) -> u8 {
+    let zones: Vec<u8> = (1..=3).filter(|&zone| row.has_zone(zone)).collect();
+    *random.pick(&zones)
+}
+
+/// Data that the row has in that direction.
+pub fn data(random: &mut Random, row: &Row, direction: Direction) -> Vec<u8> {
+    if row.codes == Codes::Pair && (direction == Direction::Answer || random.percent(80)) {
+        return vec![*random.pick(&INPUTS), random.below(2) as u8];
+    }
+    // What is no number has few codes and is picked more often.
+    let words = random.percent(40);
+    let is_word = |code: u8| !matches!(row.says(direction, &[code]), Ok(Says::Number(_)));
+    let codes: Vec<u8> = (0..=255)
+        .filter(|&code| row.says(direction, &[code]).is_ok())
+        .collect();
+    let chosen: Vec<u8> = codes
+        .iter()
+        .copied()
+        .filter(|&code| is_word(code) == words)
+        .collect();
+    match chosen.is_empty() {
+        true => vec![*random.pick(&codes)],
+        false => vec![*random.pick(&chosen)],
+    }
+}
+
+/// The bytes of a frame with these fields; data over 255 are cut.
+pub fn raw(direction: Direction, mut frame: Frame) -> Vec<u8> {
+    frame.data = &frame.data[..frame.data.len().min(DATA_LIMIT)];
+    frame.bytes(direction).unwrap_or_default()
+}
+
+/// A status answer with one byte.
+pub fn answer(zone: u8, command: u8, value: u8) -> Vec<u8> {
+    let frame = Frame {
+        zone,
+        command,
+        answer_code: 0x00,
+        data: &[value],
+    };
+    raw(Direction::Answer, frame)
+}
+
+/// A denied answer without data.
+pub fn denied(zone: u8, command: u8, answer_code: u8) -> Vec<u8> {
+    let frame = Frame {
+        zone,
+        command,
+        answer_code,
+        data: &[],
+    };
+    raw(Direction::Answer, frame)
+}
+
+/// A frame that is accepted.
+pub fn valid(random: &mut Random, profile: Profile, direction: Direction) -> Vec<u8> {
+    let row = *random.pick(&rows_of(profile));
+    let frame = Frame {
+        zone: zone(random, row),
+        command: row.command,
+        answer_code: 0x00,
+        data: &data(random, row, direction),
+    };
+    raw(direction, frame)
+}
+
+/// Bytes of which many are 0D or 21.
+pub fn mixed(random: &mut Random, count: usize) -> Vec<u8> {
+    (0..count)
+        .map(|_| match random.below(6) {
+            0 => END,
+            1 => OPENING,
+            _ => random.byte(),
+        })
+        .collect()
+}
+
+/// A frame of any fields, with data of that length.
+fn foreign(random: &mut Random, profile: Profile, direction: Direction, count: usize) -> Vec<u8> {
+    let row = *random.pick(&rows_of(profile));
+    let frame = Frame {
+        zone: *random.pick(&[0, 1, 1, 1, 2, 3, 4, 0x0D, 0x21, 0xFF]),
+        command: match random.below(3) {
+            0 => random.byte(),
+            _ => row.command,
+        },
+        answer_code: match random.below(4) {
+            0 => random.byte(),
+            1 => random.between(0x81, 0x87) as u8,
+            _ => 0x00,
+        },
+        data: &mixed(random, count),
+    };
+    raw(direction, frame)
+}
+
+/// A frame with answer code 82 to 86; a command has no answer code and is any frame.
+fn denial(random: &mut Random, direction: Direction) -> Vec<u8> {
+    let count = *random.pick(&[0, 0, 0, 1, 2, 40, 255]);
+    let frame = Frame {
+        zone: random.byte(),
+        command: random.byte(),
+        answer_code: random.between(0x82, 0x86) as u8,
+        data: &mixed(random, count),
+    };
+    raw(direction, frame)
+}
+
+/// Changes, drops or inserts one byte.
+pub fn damage(random: &mut Random, bytes: &mut Vec<u8>) {
+    if bytes.is_empty() {
+        return;
+    }
+    let place = random.below(bytes.len());
+    match random.below(3) {
+        0 => bytes[place] = *random.pick(&[0x00, END, OPENING, 0xFF, 0x80, bytes[place] ^ 0x01]),
+        1 => {
+            bytes.remove(place);
+        }
+        _ => {
+            let byte = *random.pick(&[0x00, 0x01, END, OPENING, 0xFF]);
+            bytes.insert(place, byte);
+        }
+    }
+}
+
+/// A stretch of a capture: mostly a good frame, else one kind of trouble.
+fn stretch(random: &mut Random, profile: Profile, direction: Direction) -> Vec<u8> {
+    match random.below(18) {
+        0..=7 => valid(random, profile, direction),
+        8 => {
+            let count = random.below(5);
+            foreign(random, profile, direction, count)
+        }
+        9 => denial(random, direction),
+        10 => {
+            let count = random.between(4, DATA_LIMIT);
+            foreign(random, profile, direction, count)
+        }
+        11 => foreign(random, profile, direction, DATA_LIMIT),
+        12 => {
+            let mut bytes = valid(random, profile, direction);
+            damage(random, &mut bytes);
+            bytes
+        }
+        13 => {
+            let count = random.between(0, 30);
+            let mut bytes = foreign(random, profile, direction, count);
+            damage(random, &mut bytes);
+            bytes
+        }
+        14 | 15 => {
+            let count = random.between(1, 6);
+            random.bytes(count)
+        }
+        16 => {
+            // Unfinished, at any place.
+            let mut bytes = valid(random, profile, direction);
+            bytes.truncate(random.between(1, bytes.len() - 1));
+            bytes
+        }
+        _ => {
+            let byte = *random.pick(&[OPENING, END, 0x00]);
+            vec![byte; random.between(1, 60)]
+        }
+    }
+}
+
+/// A capture of exactly that length; its last frame is cut where the length ends.
+pub fn capture(
+    random: &mut Random,
+    profile: Profile,
+    direction: Direction,
+    length: usize,
+) -> Vec<u8> {
+    let mut bytes = Vec::with_capacity(length + 300);
+    while bytes.len() < length {
+        bytes.extend(stretch(random, profile, direction));
+    }
+    bytes.truncate(length);
+    bytes
+}
+
+/// The legal sheet values of a row.
+pub fn sheet_values(row: &Row) -> Vec<u8> {
+    (0..=255)
+        .filter(|&value| row.has_sheet_value(value))
+        .collect()
+}
+
+/// Every zone of every sheet row, with a random legal value, in random order.
+pub fn full_sheet(random: &mut Random, profile: Profile) -> Vec<Line> {
+    let mut lines = Vec::new();
+    for row in rows_of(profile) {
+        if row.mark == Mark::Not {
+            continue;
+        }
+        let values = sheet_values(row);
+        for zone in 1..=profile.zones() {
+            lines.push(Line {
+                zone,
+                command: row.command,
+                value: *random.pick(&values),
+            });
+        }
+    }
+    random.shuffle(&mut lines);
+    lines
+}
+
+/// The most lines of an accepted sheet.
+pub fn most_lines(profile: Profile) -> usize {
+    match profile {
+        Profile::A => 12,
+        Profile::S => 8,
+    }
+}
+
+/// A sheet of that many lines, accepted up to the most lines of the profile.
+pub fn sheet(random: &mut Random, profile: Profile, size: usize) -> Vec<Line> {
+    let mut lines = full_sheet(random, profile);
+    lines.truncate(size);
+    lines
+}

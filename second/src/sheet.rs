@@ -1,0 +1,164 @@
+//! Sheet, sheet file and run.
+
+use crate::frame::{Direction, Frame};
+use crate::rows::{self, Profile, ROWS};
+
+pub const LINE_LIMIT: usize = 12;
+pub const RECORD: usize = 6;
+pub const RUN_ZEROS: usize = 256;
+const MARK: [u8; 2] = [0x53, 0x4C];
+
+#[derive(Clone, Copy, PartialEq, Eq, Debug)]
+pub struct Line {
+    pub zone: u8,
+    pub command: u8,
+    pub value: u8,
+}
+
+/// A refusal of a sheet, with the index of the line at fault.
+#[derive(Clone, Copy, PartialEq, Eq, Debug)]
+pub struct Fault {
+    pub number: u8,
+    pub at: usize,
+}
+
+/// Whether zone, row and value are legal for a sheet.
+pub fn legal(profile: Profile, line: Line) -> bool {
+    match rows::find(profile, line.command) {
+        Some(row) => ROWS[row].has_zone(line.zone) && ROWS[row].has_sheet_value(line.value),
+        None => false,
+    }
+}
+
+/// 6, then the lowest line at fault, 7 before 8 on that line.
+pub fn check(profile: Profile, lines: &[Line]) -> Result<(), Fault> {
+    if lines.len() > LINE_LIMIT {
+        return Err(Fault {
+            number: 6,
+            at: LINE_LIMIT,
+        });
+    }
+    for (at, line) in lines.iter().enumerate() {
+        if !legal(profile, *line) {
+            return Err(Fault { number: 7, at });
+        }
+        let same = |other: &Line| other.zone == line.zone && other.command == line.command;
+        if lines[..at].iter().any(same) {
+            return Err(Fault { number: 8, at });
+        }
+    }
+    Ok(())
+}
+
+/// The lines of an accepted sheet file.
+pub fn read_file(profile: Profile, file: &[u8]) -> Result<Vec<Line>, Fault> {
+    let records = file.chunks_exact(RECORD);
+    if !records.remainder().is_empty() {
+        return Err(Fault {
+            number: 10,
+            at: file.len() / RECORD,
+        });
+    }
+    // All marks and profiles come before the sheet's checks.
+    for (at, record) in records.clone().enumerate() {
+        if record[..2] != MARK || record[2] != profile.letter() {
+            return Err(Fault { number: 10, at });
+        }
+    }
+    let lines: Vec<Line> = records
+        .map(|record| Line {
+            zone: record[3],
+            command: record[4],
+            value: record[5],
+        })
+        .collect();
+    check(profile, &lines)?;
+    Ok(lines)
+}
+
+/// The sheet file of a sheet that is accepted.
+pub fn file(profile: Profile, lines: &[Line]) -> Result<Vec<u8>, Fault> {
+    check(profile, lines)?;
+    Ok(records(profile, lines))
+}
+
+/// The records of any lines, unchecked.
+pub fn records(profile: Profile, lines: &[Line]) -> Vec<u8> {
+    let mut file = Vec::with_capacity(RECORD * lines.len());
+    for line in lines {
+        file.extend_from_slice(&MARK);
+        file.extend_from_slice(&[profile.letter(), line.zone, line.command, line.value]);
+    }
+    file
+}
+
+/// The run of a sheet that is accepted: 256 bytes of 00, then a frame per line.
+pub fn run(profile: Profile, lines: &[Line]) -> Result<Vec<u8>, Fault> {
+    check(profile, lines)?;
+    let mut run = vec![0x00; RUN_ZEROS];
+    for line in lines {
+        let frame = Frame {
+            zone: line.zone,
+            command: line.command,
+            answer_code: 0x00,
+            data: &[line.value],
+        };
+        run.extend(frame.bytes(Direction::Command).unwrap_or_default());
+    }
+    Ok(run)
+}
+
+#[cfg(test)]
+mod tests {
+    use super::*;
+
+    fn line(zone: u8, command: u8, value: u8) -> Line {
+        Line {
+            zone,
+            command,
+            value,
+        }
+    }
+
+    fn fault(number: u8, at: usize) -> Fault {
+        Fault { number, at }
+    }
+
+    #[test]
+    fn the_lowest_fault_is_given() {
+        let good = line(1, 0x3A, 0x85);
+        let bad = line(1, 0x3A, 0x80);
+        let a = |lines: &[Line]| check(Profile::A, lines);
+        assert_eq!(a(&[]), Ok(()));
+        assert_eq!(a(&[good, good, bad]), Err(fault(8, 1)));
+        assert_eq!(a(&[good, bad]), Err(fault(7, 1)));
+        assert_eq!(a(&[bad; 12]), Err(fault(7, 0)));
+        assert_eq!(a(&[bad; 40]), Err(fault(6, 12)));
+        assert_eq!(a(&[line(1, 0x39, 0xFF)]), Ok(()));
+        assert_eq!(a(&[line(1, 0x39, 0xF0)]), Err(fault(7, 0)));
+        let s = |lines: &[Line]| check(Profile::S, lines);
+        assert_eq!(s(&[line(1, 0x0E, 0x02)]), Err(fault(7, 0)));
+        assert_eq!(s(&[line(1, 0x5B, 0x01)]), Err(fault(7, 0)));
+        assert_eq!(s(&[line(1, 0x37, 0x03)]), Err(fault(7, 0)));
+    }
+
+    #[test]
+    fn marks_come_before_the_lines() {
+        let mut file = records(Profile::A, &[line(1, 0x3A, 0x80); 14]);
+        assert_eq!(read_file(Profile::A, &file), Err(fault(6, 12)));
+        file[13 * RECORD] = 0;
+        assert_eq!(read_file(Profile::A, &file), Err(fault(10, 13)));
+        assert_eq!(read_file(Profile::S, &file), Err(fault(10, 0)));
+        assert_eq!(read_file(Profile::S, &file[1..]), Err(fault(10, 13)));
+    }
+
+    #[test]
+    fn a_file_reads_back_and_a_run_has_its_length() {
+        let lines = [line(1, 0x3A, 0x85), line(2, 0x39, 0xFF)];
+        let written = file(Profile::A, &lines).unwrap();
+        assert_eq!(read_file(Profile::A, &written), Ok(lines.to_vec()));
+        let run = run(Profile::A, &lines).unwrap();
+        assert_eq!(run.len(), 256 + 12);
+        assert_eq!(run[256..262], [0x21, 1, 0x3A, 1, 0x85, 0x0D]);
+    }
+}

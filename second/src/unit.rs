@@ -1,0 +1,234 @@
+//! The unit: a command reader plus one legal answer value per row and zone.
+
+use crate::frame::{Direction, Frame, Reader, Step, OPENING};
+use crate::message::{self, Message};
+use crate::random::Random;
+use crate::rows::{self, Codes, Profile, Row, Says, INPUTS, ROWS, ZONES};
+
+/// What a unit is set to.
+#[derive(Clone, PartialEq, Eq, Debug)]
+pub struct Settings {
+    /// By row of the table and zone less 1; unused places hold 00.
+    pub values: [[u8; ZONES]; ROWS.len()],
+    /// S 0F: a value per input.
+    pub direct: [u8; INPUTS.len()],
+    /// S 0F: the place of the current input, which nothing changes.
+    pub current: usize,
+}
+
+impl Settings {
+    /// Random legal settings.
+    pub fn random(random: &mut Random, profile: Profile) -> Settings {
+        let mut settings = Settings {
+            values: [[0; ZONES]; ROWS.len()],
+            direct: [0; INPUTS.len()],
+            current: random.below(INPUTS.len()),
+        };
+        for (index, row) in ROWS.iter().enumerate() {
+            if row.profile != profile || row.codes == Codes::Pair {
+                continue;
+            }
+            let legal: Vec<u8> = (0..=255).filter(|&value| row.has_answer(value)).collect();
+            for zone in (1..=ZONES as u8).filter(|&zone| row.has_zone(zone)) {
+                settings.values[index][usize::from(zone) - 1] = *random.pick(&legal);
+            }
+        }
+        for value in &mut settings.direct {
+            *value = random.below(2) as u8;
+        }
+        settings
+    }
+}
+
+#[derive(Clone)]
+pub struct Unit {
+    profile: Profile,
+    reader: Reader,
+    /// The bytes of the open frame.
+    held: Vec<u8>,
+    pub settings: Settings,
+}
+
+impl Unit {
+    pub fn new(profile: Profile, settings: Settings) -> Unit {
+        Unit {
+            profile,
+            reader: Reader::new(Direction::Command),
+            held: Vec::new(),
+            settings,
+        }
+    }
+
+    /// Takes one byte; a completed frame gets an answer.
+    pub fn take(&mut self, byte: u8) -> Option<Vec<u8>> {
+        match self.reader.take(byte) {
+            Step::Noise => None,
+            Step::Waiting => {
+                self.held.push(byte);
+                None
+            }
+            Step::Broken(_) => {
+                self.held.clear();
+                if byte == OPENING {
+                    self.held.push(byte);
+                }
+                None
+            }
+            Step::Frame(_) => {
+                self.held.push(byte);
+                let held = std::mem::take(&mut self.held);
+                let frame = Frame::of(Direction::Command, &held)?;
+                self.answer(frame)
+            }
+        }
+    }
+
+    fn answer(&mut self, frame: Frame) -> Option<Vec<u8>> {
+        let (answer_code, data) = match message::read(self.profile, Direction::Command, frame) {
+            Ok(Message::Command {
+                zone,
+                command,
+                says,
+            }) => (0x00, self.act(zone, command, says)?),
+            Ok(_) => return None,
+            Err(refusal) => (denial(refusal), Vec::new()),
+        };
+        let answer = Frame {
+            answer_code,
+            data: &data,
+            ..frame
+        };
+        answer.bytes(Direction::Answer).ok()
+    }
+
+    /// Acts, and gives the row's value after it.
+    fn act(&mut self, zone: u8, command: u8, says: Says) -> Option<Vec<u8>> {
+        let index = rows::find(self.profile, command)?;
+        let row = &ROWS[index];
+        if row.codes == Codes::Pair {
+            let input = match says {
+                Says::Input { input, on } => {
+                    let place = INPUTS.iter().position(|&other| other == input)?;
+                    self.settings.direct[place] = u8::from(on);
+                    place
+                }
+                _ => self.settings.current,
+            };
+            return Some(vec![INPUTS[input], self.settings.direct[input]]);
+        }
+        let value = &mut self.settings.values[index][usize::from(zone) - 1];
+        *value = after(row, *value, says);
+        Some(vec![*value])
+    }
+}
+
+/// The answer code of a refused frame.
+fn denial(refusal: u8) -> u8 {
+    match refusal {
+        1 => 0x82,
+        2 => 0x83,
+        3 => 0x86,
+        _ => 0x84,
+    }
+}
+
+/// The value of a row after a command.
+fn after(row: &Row, value: u8, says: Says) -> u8 {
+    // Room EQ not calculated stays so, in both profiles.
+    if row.command == 0x37 && value == not_calculated(row.profile) {
+        return value;
+    }
+    match says {
+        Says::Request | Says::Input { .. } => value,
+        Says::Up => step(row, value, 1),
+        Says::Down => step(row, value, -1),
+        Says::On => 0x01,
+        Says::Off => 0x00,
+        Says::Toggle => 0x01 - value,
+        Says::LevellerOff => 0xFF,
+        Says::Number(number) => row.code(number).unwrap_or(value),
+    }
+}
+
+fn not_calculated(profile: Profile) -> u8 {
+    match profile {
+        Profile::A => 0x02,
+        Profile::S => 0xA0,
+    }
+}
+
+/// A step past either end leaves the value; Leveller off stays off.
+fn step(row: &Row, value: u8, by: i16) -> u8 {
+    if row.codes == Codes::Leveller && value == 0xFF {
+        return value;
+    }
+    match row.code(row.number(value) + by) {
+        Some(code) if row.has_answer(code) => code,
+        _ => value,
+    }
+}
+
+#[cfg(test)]
+mod tests {
+    use super::*;
+    use crate::text;
+
+    fn unit(profile: Profile) -> Unit {
+        let mut unit = Unit::new(profile, Settings::random(&mut Random::new(1), profile));
+        unit.settings.values = [[0; ZONES]; ROWS.len()];
+        unit.settings.direct = [0; INPUTS.len()];
+        unit.settings.current = 4;
+        unit
+    }
+
+    /// The answer to a command's bytes, in hex.
+    fn answer(unit: &mut Unit, hex: &str) -> String {
+        let mut answers = Vec::new();
+        for byte in text::bytes(hex.as_bytes()).unwrap() {
+            answers.extend(unit.take(byte).unwrap_or_default());
+        }
+        text::hex(&answers)
+    }
+
+    #[test]
+    fn steps_go_over_zero_and_stop_at_the_ends() {
+        let mut a = unit(Profile::A);
+        assert_eq!(answer(&mut a, "21013A01F20D"), "21013A0001810D");
+        assert_eq!(answer(&mut a, "21013A01F10D"), "21013A0001000D");
+        assert_eq!(answer(&mut a, "21014501F10D"), "2101450001000D");
+        assert_eq!(answer(&mut a, "210139010A0D"), "21013900010A0D");
+        assert_eq!(answer(&mut a, "21013901F10D"), "21013900010A0D");
+        assert_eq!(answer(&mut a, "21013901FF0D"), "2101390001FF0D");
+        assert_eq!(answer(&mut a, "21013901F20D"), "2101390001FF0D");
+        assert_eq!(answer(&mut a, "21013901F10D"), "2101390001FF0D");
+        assert_eq!(answer(&mut a, "21013901000D"), "2101390001000D");
+        assert_eq!(answer(&mut a, "21013901F20D"), "2101390001000D");
+    }
+
+    #[test]
+    fn room_eq_toggle_and_direct() {
+        let mut a = unit(Profile::A);
+        assert_eq!(answer(&mut a, "21023701F10D"), "2102370001010D");
+        a.settings.values[3][1] = 0x02;
+        assert_eq!(answer(&mut a, "21023701F20D"), "2102370001020D");
+        let mut s = unit(Profile::S);
+        assert_eq!(answer(&mut s, "21010E01020D"), "21010E0001010D");
+        assert_eq!(answer(&mut s, "21010E01020D"), "21010E0001000D");
+        assert_eq!(answer(&mut s, "21010F0205010D"), "21010F000205010D");
+        assert_eq!(answer(&mut s, "21010F01F00D"), "21010F000206000D");
+        assert_eq!(answer(&mut s, "21010D010D0D"), "21010D00010D0D");
+        s.settings.values[13][0] = 0xA0;
+        assert_eq!(answer(&mut s, "21013701030D"), "2101370001A00D");
+    }
+
+    #[test]
+    fn refused_frames_are_answered_and_broken_ones_are_not() {
+        let mut a = unit(Profile::A);
+        assert_eq!(answer(&mut a, "21003A01000D"), "21003A82000D");
+        assert_eq!(answer(&mut a, "21019901000D"), "21019983000D");
+        assert_eq!(answer(&mut a, "21013A000D"), "21013A86000D");
+        assert_eq!(answer(&mut a, "21013A01800D"), "21013A84000D");
+        assert_eq!(answer(&mut a, "21013A01050021013A01F00D"), "21013A0001000D");
+        assert_eq!(answer(&mut a, "21013A010521013A01F00D"), "21013A0001000D");
+    }
+}
