@@ -1,9 +1,7 @@
 pub mod Repeats
 pub mod Faults
 pub mod Sheets
-pub mod Folds
 pub mod Together
-pub mod Lent
 pub mod Records
 pub mod Files
 pub mod Filled

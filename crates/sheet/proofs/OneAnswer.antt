@@ -8,7 +8,7 @@ use Rattle.row.specs.Profile.{profileOf}
 use Rattle.row.specs.declared.profile.Profile.{Profile}
 use Rattle.row.specs.declared.table.Row.{Row}
 use Rattle.sheet.specs.Line.{isSheetValue, isLegal}
-use Rattle.sheet.specs.Lines.{noLines, withAll, linesOf}
+use Rattle.sheet.specs.Lines.{noLines, withLine, linesOf}
 use Rattle.sheet.specs.Check.{sheetVerdict}
 use Rattle.sheet.specs.File.{fileRead, fileReadBy}
 use Rattle.sheet.specs.Written.{fileAnswered, fileLeft, runAnswered, runLeft}
@@ -26,8 +26,8 @@ is-sheet-value-one row value = one (isSheetValue row value)
 pub no-lines-one : OneAnswer (λ x. x ≡ noLines)
 no-lines-one = one noLines
 
-pub with-lines-one : (ls : List Line) (s : Sheet) → OneAnswer (λ x. x ≡ withAll s ls)
-with-lines-one ls s = one (withAll s ls)
+pub with-line-one : (s : Sheet) (l : Line) → OneAnswer (λ x. x ≡ withLine s l)
+with-line-one s l = one (withLine s l)
 
 pub checked-one : (profile : Profile) (s : Sheet) → OneAnswer (λ x. x ≡ sheetVerdict profile (linesOf s))
 checked-one profile s = one (sheetVerdict profile (linesOf s))
@@ -38,20 +38,17 @@ read-file-one profile file = one (fileRead profile file)
 pub read-file-by-letter-one : (letter : ℕ) (file : List ℕ) → OneAnswer (λ x. x ≡ fileReadBy (profileOf letter) file)
 read-file-by-letter-one letter file = one (fileReadBy (profileOf letter) file)
 
-pub check-sheet-one : (profile : Profile) (ls : List Line) → OneAnswer (λ x. x ≡ sheetVerdict profile ls)
-check-sheet-one profile ls = one (sheetVerdict profile ls)
-
 pub check-file-one : (letter : ℕ) (file : List ℕ) → OneAnswer (λ x. x ≡ fileVerdictBy (profileOf letter) file)
 check-file-one letter file = one (fileVerdictBy (profileOf letter) file)
 
 -- a write: its answer and the buffer after it
-pub write-sheet-file-one : (profile : Profile) (ls : List Line) (buf : List ℕ) (at : ℕ)
-    → OneAnswer (λ (w : SheetWritten × List ℕ). (w .0 ≡ fileAnswered profile ls buf at) × (w .1 ≡ fileLeft profile ls buf at))
-write-sheet-file-one profile ls buf at = one-lent (fileAnswered profile ls buf at) (fileLeft profile ls buf at)
+pub put-file-one : (profile : Profile) (s : Sheet) (buf : List ℕ) (at : ℕ)
+    → OneAnswer (λ (w : SheetWritten × List ℕ). (w .0 ≡ fileAnswered profile (linesOf s) buf at) × (w .1 ≡ fileLeft profile (linesOf s) buf at))
+put-file-one profile s buf at = one-lent (fileAnswered profile (linesOf s) buf at) (fileLeft profile (linesOf s) buf at)
 
-pub write-run-one : (profile : Profile) (ls : List Line) (buf : List ℕ) (at : ℕ)
-    → OneAnswer (λ (w : SheetWritten × List ℕ). (w .0 ≡ runAnswered profile ls buf at) × (w .1 ≡ runLeft profile ls buf at))
-write-run-one profile ls buf at = one-lent (runAnswered profile ls buf at) (runLeft profile ls buf at)
+pub put-run-one : (profile : Profile) (s : Sheet) (buf : List ℕ) (at : ℕ)
+    → OneAnswer (λ (w : SheetWritten × List ℕ). (w .0 ≡ runAnswered profile (linesOf s) buf at) × (w .1 ≡ runLeft profile (linesOf s) buf at))
+put-run-one profile s buf at = one-lent (runAnswered profile (linesOf s) buf at) (runLeft profile (linesOf s) buf at)
 
 pub copy-file-one : (letter : ℕ) (file buf : List ℕ) (at : ℕ)
     → OneAnswer (λ (w : SheetWritten × List ℕ). (w .0 ≡ copyAnswered (profileOf letter) file buf at) × (w .1 ≡ copyLeft (profileOf letter) file buf at))

@@ -3,6 +3,5 @@ pub mod check;
 pub mod file;
 pub mod line;
 pub mod lines;
-pub mod list;
 pub mod plain;
 pub mod write;

@@ -27,7 +27,7 @@ pub fn no_lines() -> Sheet
 }
 
 // The sheet with one line more; past the limit it only counts.
-pub(crate) fn with_line(sheet: Sheet, line: Line) -> Sheet
+pub fn with_line(sheet: Sheet, line: Line) -> Sheet
     ensures { λ r. ⌜ r ≡ withLine sheet line ⌝ }
 {
     let count = sheet.count;

@@ -36,14 +36,14 @@ enum Form {
 }
 
 // Writes a sheet's file into the rest of the buffer from a place: the sheet's checks, then 9.
-pub(crate) fn put_file(buf: &mut [u8], at: usize, profile: Profile, sheet: Sheet) -> SheetWritten
+pub fn put_file(buf: &mut [u8], at: usize, profile: Profile, sheet: Sheet) -> SheetWritten
     ensures { λ r. ⌜ (r ≡ fileAnswered profile (linesOf sheet) (now (buf .entry)) at) × (now (buf .exit) ≡ fileLeft profile (linesOf sheet) (now (buf .entry)) at) ⌝ }
 {
     put_sheet(Form::File, profile, sheet, buf, at)
 }
 
 // Writes a sheet's run into the rest of the buffer from a place: the sheet's checks, then 9 for the whole run.
-pub(crate) fn put_run(buf: &mut [u8], at: usize, profile: Profile, sheet: Sheet) -> SheetWritten
+pub fn put_run(buf: &mut [u8], at: usize, profile: Profile, sheet: Sheet) -> SheetWritten
     ensures { λ r. ⌜ (r ≡ runAnswered profile (linesOf sheet) (now (buf .entry)) at) × (now (buf .exit) ≡ runLeft profile (linesOf sheet) (now (buf .entry)) at) ⌝ }
 {
     put_sheet(Form::Run, profile, sheet, buf, at)

@@ -34,7 +34,7 @@ pub struct CaptureFed {
 
 // Feeds every answer frame of a capture, in order; noise, broken and pending bytes and refused frames
 // change nothing. 11 for a capture over 60,000 bytes, and then the tracker is as it was.
-pub(crate) fn after_capture(tracker: Tracker, capture: &[u8]) -> CaptureFed
+pub fn after_capture(tracker: Tracker, capture: &[u8]) -> CaptureFed
     ensures { λ r. ⌜ r ≡ captureFed tracker (now (capture .entry)) ⌝ }
 {
     if capture.len() > CAPTURE_LIMIT {
@@ -52,7 +52,7 @@ pub(crate) fn after_capture(tracker: Tracker, capture: &[u8]) -> CaptureFed
 
 // Signs a sheet off by a capture alone, with a tracker of its own: 11 first, then the sheet's refusal,
 // then yes or no.
-pub(crate) fn capture_signs(profile: Profile, sheet: Sheet, capture: &[u8]) -> Signed
+pub fn capture_signs(profile: Profile, sheet: Sheet, capture: &[u8]) -> Signed
     ensures { λ r. ⌜ r ≡ captureSigned profile (linesOf sheet) (now (capture .entry)) ⌝ }
 {
     let fed = after_capture(new_tracker(profile), capture);

@@ -18,7 +18,7 @@ pub struct Fed {
 }
 
 // Feeds what an answer's frame brings, read under the tracker's own profile.
-pub(crate) fn after_answer(tracker: Tracker, zone: u8, command: u8, answer: u8, body: &[u8]) -> Fed
+pub fn after_answer(tracker: Tracker, zone: u8, command: u8, answer: u8, body: &[u8]) -> Fed
     ensures { λ r. ⌜ r ≡ fed tracker zone command answer (now (body .entry)) ⌝ }
 {
     let profile = tracker.profile;

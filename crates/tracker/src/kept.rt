@@ -39,7 +39,7 @@ pub fn new_tracker(profile: Profile) -> Tracker
 }
 
 // The byte that is known of a row and zone.
-pub(crate) fn kept_in(tracker: Tracker, zone: u8, command: u8) -> Kept
+pub fn kept_in(tracker: Tracker, zone: u8, command: u8) -> Kept
     ensures { λ r. ⌜ r ≡ keptIn tracker zone command ⌝ }
 {
     let profile = tracker.profile;

@@ -2,7 +2,6 @@
 pub mod capture;
 pub mod cell;
 pub mod feed;
-pub mod host;
 pub mod kept;
 pub mod plain;
 pub mod sign;

@@ -20,7 +20,7 @@ pub enum Signed {
 
 // The sheet's refusal under the tracker's own profile; else yes exactly when every line's cell is known
 // and equal.
-pub(crate) fn sign_sheet(tracker: Tracker, sheet: Sheet) -> Signed
+pub fn sign_sheet(tracker: Tracker, sheet: Sheet) -> Signed
     ensures { λ r. ⌜ r ≡ signOff tracker (linesOf sheet) ⌝ }
 {
     let profile = tracker.profile;

@@ -1,4 +1,4 @@
--- `tracker::host::feed_capture` meets its contract: a walk of its MIR, by hand. The struct is copied out and passed to `after_capture`; of what that returns one field is stored, and the other is returned.
+-- `host::track::feed_capture` meets its contract: a walk of its MIR, by hand. The struct is copied out and passed to `after_capture`; of what that returns one field is stored, and the other is returned.
 -- Assumes nothing.
 use mathlib.Core.Path.{_≡_, refl, ap}
 use Prim.Native.Nat.{ℕ}
@@ -40,23 +40,23 @@ use denote.Triple.Table.{entered, cited}
 use denote.Triple.Walked.{says, Stays, stay-ref, stay-none-slice, walkOf, AllGo, goes-ref, goes-none-slice, Walks, ends-at, walked, walk-meets}
 use denote.Triple.Clauses.{ensured, lasts}
 use denote.Exit.{yes}
 use Rattle.tracker.specs.Capture.{captureFed}
 use Rattle.tracker.specs.declared.kept.Tracker.{Tracker}
 use Rattle.tracker.specs.declared.capture.CaptureFed.{CaptureFed}
 use Rattle.tracker.proofs.kept.Tracker as T
 use Rattle.tracker.proofs.kept.Tracker.Laws as T′
 use Rattle.tracker.proofs.capture.CaptureFed as D1
 use Rattle.tracker.proofs.capture.CaptureFed.Laws as D1′
 use Rattle.tracker.proofs.capture.CaptureAnswer as D2
 use Rattle.tracker.proofs.capture.CaptureAnswer.Laws as D2′
 use Rattle.tracker.proofs.capture.after_capture as g
 use Rattle.tracker.proofs.capture.after_capture.Symbol as g-def
 use Rattle.tracker.proofs.capture.after_capture.Symbol.{name as #tracker·capture·after-capture}
 use Rattle.tracker.proofs.capture.after_capture.Met as g-thm
-use Rattle.tracker.proofs.host.feed_capture.Key.{name as #tracker·host·feed-capture}
-use Rattle.tracker.proofs.host.feed_capture as f
-use Rattle.tracker.proofs.host.feed_capture.Statement as stated
-use Rattle.tracker.proofs.host.feed_capture.Code as code
+use Rattle.host.proofs.track.feed_capture.Key.{name as #host·track·feed-capture}
+use Rattle.host.proofs.track.feed_capture as f
+use Rattle.host.proofs.track.feed_capture.Statement as stated
+use Rattle.host.proofs.track.feed_capture.Code as code
 
 abbrev only : List Val → Val
 only [] = vptr 0 0
@@ -145,6 +145,6 @@ pub feed-capture-spec : {M : Type 1} → stated.statement M
 unfolding code.routine tablesOf
 feed-capture-spec 𝓤 H 𝓜 𝓖 𝓡 =
     entered 𝓤 H (tripleOf 𝓤 H (𝓖 .A) f.signature (f.spec 𝓤 H (𝓖 .A) (𝓜 .mem) (𝓡 .run)))
-    (tables 𝓤 H 𝓜 𝓡 code.env .C) (tables 𝓤 H 𝓜 𝓡 code.env .Λ) #tracker·host·feed-capture code.function (code.unfolded 𝓤 H 𝓜 𝓡)
+    (tables 𝓤 H 𝓜 𝓡 code.env .C) (tables 𝓤 H 𝓜 𝓡 code.env .Λ) #host·track·feed-capture code.function (code.unfolded 𝓤 H 𝓜 𝓡)
     (meets 𝓤 H (𝓖 .A) (givenOf 𝓤 H 𝓜 𝓖) (𝓜 .mem) (𝓡 .run) (tablesOf 𝓤 H 𝓜 (tables 𝓤 H 𝓜 𝓡 code.env))
     (cited 𝓤 H (Called 𝓤 H (𝓖 .A) (𝓜 .mem) (𝓡 .run)) 𝓜 𝓡 code.env #tracker·capture·after-capture g-def.routine code.calls-tracker·capture·after-capture (g-thm.met 𝓤 H 𝓜 𝓖 𝓡)))

@@ -1,22 +1,22 @@
-use crate::capture::CaptureAnswer;
-use crate::capture::after_capture;
-use crate::capture::capture_signs;
-use crate::feed::after_answer;
-use crate::kept::Kept;
-use crate::kept::Tracker;
-use crate::kept::kept_in;
-use crate::sign::Signed;
-use crate::sign::sign_sheet;
+use crate::list::with_lines;
 use message::read::Reading;
 use row::profile::Profile;
 use sheet::line::Line;
 use sheet::lines::no_lines;
-use sheet::list::with_lines;
+use tracker::capture::CaptureAnswer;
+use tracker::capture::after_capture;
+use tracker::capture::capture_signs;
+use tracker::feed::after_answer;
+use tracker::kept::Kept;
+use tracker::kept::Tracker;
+use tracker::kept::kept_in;
+use tracker::sign::Signed;
+use tracker::sign::sign_sheet;
 ghost use mathlib.Core.Path.{_≡_};
 ghost use Rattle.tracker.specs.Kept.{keptIn};
 ghost use Rattle.tracker.specs.Feed.{fed};
 ghost use Rattle.tracker.specs.Sign.{signOff};
 ghost use Rattle.tracker.specs.Capture.{captureFed, captureSigned};
 
 // The byte that a tracker knows of a row and zone.
 pub fn read_cell(tracker: &Tracker, zone: u8, command: u8) -> Kept

@@ -1,4 +1,4 @@
--- `tracker::host::read_cell` meets its contract: a walk of its MIR, by hand. The struct is copied out and passed to `kept_in`, whose result is returned.
+-- `host::track::read_cell` meets its contract: a walk of its MIR, by hand. The struct is copied out and passed to `kept_in`, whose result is returned.
 -- Assumes nothing.
 use mathlib.Core.Path.{_≡_, refl}
 use Prim.Native.Nat.{ℕ}
@@ -36,21 +36,21 @@ use denote.Triple.Table.{entered, cited}
 use denote.Triple.Walked.{says, Stays, stay-none-ref, stay-none, walkOf, AllGo, goes-none, goes-none-ref, Walks, ends-at, walked, walk-meets}
 use denote.Triple.Clauses.{ensured, lasts}
 use denote.Exit.{yes}
 use Rattle.tracker.specs.Kept.{keptIn}
 use Rattle.tracker.specs.declared.kept.Tracker.{Tracker}
 use Rattle.tracker.specs.declared.kept.Kept.{Kept}
 use Rattle.tracker.proofs.kept.Tracker as T
 use Rattle.tracker.proofs.kept.Tracker.Laws as T′
 use Rattle.tracker.proofs.kept.Kept as D1
 use Rattle.tracker.proofs.kept.Kept.Laws as D1′
 use Rattle.tracker.proofs.kept.kept_in as g
 use Rattle.tracker.proofs.kept.kept_in.Symbol as g-def
 use Rattle.tracker.proofs.kept.kept_in.Symbol.{name as #tracker·kept·kept-in}
 use Rattle.tracker.proofs.kept.kept_in.Met as g-thm
-use Rattle.tracker.proofs.host.read_cell.Key.{name as #tracker·host·read-cell}
-use Rattle.tracker.proofs.host.read_cell as f
-use Rattle.tracker.proofs.host.read_cell.Statement as stated
-use Rattle.tracker.proofs.host.read_cell.Code as code
+use Rattle.host.proofs.track.read_cell.Key.{name as #host·track·read-cell}
+use Rattle.host.proofs.track.read_cell as f
+use Rattle.host.proofs.track.read_cell.Statement as stated
+use Rattle.host.proofs.track.read_cell.Code as code
 
 abbrev Arg : Type 0
 Arg = RefT Tracker × (ℕ × (ℕ × Unit {0}))
@@ -125,6 +125,6 @@ pub read-cell-spec : {M : Type 1} → stated.statement M
 unfolding code.routine tablesOf
 read-cell-spec 𝓤 H 𝓜 𝓖 𝓡 =
     entered 𝓤 H (tripleOf 𝓤 H (𝓖 .A) f.signature (f.spec 𝓤 H (𝓖 .A) (𝓜 .mem) (𝓡 .run)))
-    (tables 𝓤 H 𝓜 𝓡 code.env .C) (tables 𝓤 H 𝓜 𝓡 code.env .Λ) #tracker·host·read-cell code.function (code.unfolded 𝓤 H 𝓜 𝓡)
+    (tables 𝓤 H 𝓜 𝓡 code.env .C) (tables 𝓤 H 𝓜 𝓡 code.env .Λ) #host·track·read-cell code.function (code.unfolded 𝓤 H 𝓜 𝓡)
     (meets 𝓤 H (𝓖 .A) (givenOf 𝓤 H 𝓜 𝓖) (𝓜 .mem) (𝓡 .run) (tablesOf 𝓤 H 𝓜 (tables 𝓤 H 𝓜 𝓡 code.env))
     (cited 𝓤 H (Called 𝓤 H (𝓖 .A) (𝓜 .mem) (𝓡 .run)) 𝓜 𝓡 code.env #tracker·kept·kept-in g-def.routine code.calls-tracker·kept·kept-in (g-thm.met 𝓤 H 𝓜 𝓖 𝓡)))

@@ -1,17 +1,17 @@
-use crate::check::Verdict;
-use crate::check::checked;
-use crate::line::Line;
-use crate::lines::Sheet;
-use crate::lines::no_lines;
-use crate::lines::with_line;
-use crate::write::SheetWritten;
-use crate::write::put_file;
-use crate::write::put_run;
 use row::profile::Profile;
+use sheet::check::Verdict;
+use sheet::check::checked;
+use sheet::line::Line;
+use sheet::lines::Sheet;
+use sheet::lines::no_lines;
+use sheet::lines::with_line;
+use sheet::write::SheetWritten;
+use sheet::write::put_file;
+use sheet::write::put_run;
 ghost use mathlib.Core.Path.{_≡_};
 ghost use Rattle.sheet.specs.Lines.{withAll};
 ghost use Rattle.sheet.specs.Check.{sheetVerdict};
 ghost use Rattle.sheet.specs.Written.{fileAnswered, fileLeft, runAnswered, runLeft};
 
 // A sheet with a list of lines more.
 pub fn with_lines(lines: &[Line], from: Sheet) -> Sheet

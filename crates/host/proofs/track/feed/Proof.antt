@@ -1,4 +1,4 @@
--- `tracker::host::feed` meets its contract: a walk of its MIR, by hand. The struct is copied out and passed to `after_answer`; of what that returns one field is stored, and the other is returned.
+-- `host::track::feed` meets its contract: a walk of its MIR, by hand. The struct is copied out and passed to `after_answer`; of what that returns one field is stored, and the other is returned.
 -- Assumes nothing.
 use mathlib.Core.Path.{_≡_, refl, ap}
 use Prim.Native.Nat.{ℕ}
@@ -41,23 +41,23 @@ use denote.Triple.Table.{entered, cited}
 use denote.Triple.Walked.{says, Stays, stay-ref, stay-none-slice, stay-none, walkOf, AllGo, goes-none, goes-ref, goes-none-slice, Walks, ends-at, walked, walk-meets}
 use denote.Triple.Clauses.{ensured, lasts}
 use denote.Exit.{yes}
 use Rattle.tracker.specs.Feed.{fed}
 use Rattle.tracker.specs.declared.kept.Tracker.{Tracker}
 use Rattle.tracker.specs.declared.feed.Fed.{Fed}
 use Rattle.tracker.proofs.kept.Tracker as T
 use Rattle.tracker.proofs.kept.Tracker.Laws as T′
 use Rattle.tracker.proofs.feed.Fed as D1
 use Rattle.tracker.proofs.feed.Fed.Laws as D1′
 use Rattle.message.proofs.read.Reading as D2
 use Rattle.message.proofs.read.Reading.Laws as D2′
 use Rattle.tracker.proofs.feed.after_answer as g
 use Rattle.tracker.proofs.feed.after_answer.Symbol as g-def
 use Rattle.tracker.proofs.feed.after_answer.Symbol.{name as #tracker·feed·after-answer}
 use Rattle.tracker.proofs.feed.after_answer.Met as g-thm
-use Rattle.tracker.proofs.host.feed.Key.{name as #tracker·host·feed}
-use Rattle.tracker.proofs.host.feed as f
-use Rattle.tracker.proofs.host.feed.Statement as stated
-use Rattle.tracker.proofs.host.feed.Code as code
+use Rattle.host.proofs.track.feed.Key.{name as #host·track·feed}
+use Rattle.host.proofs.track.feed as f
+use Rattle.host.proofs.track.feed.Statement as stated
+use Rattle.host.proofs.track.feed.Code as code
 
 abbrev only : List Val → Val
 only [] = vptr 0 0
@@ -146,6 +146,6 @@ pub feed-spec : {M : Type 1} → stated.statement M
 unfolding code.routine tablesOf
 feed-spec 𝓤 H 𝓜 𝓖 𝓡 =
     entered 𝓤 H (tripleOf 𝓤 H (𝓖 .A) f.signature (f.spec 𝓤 H (𝓖 .A) (𝓜 .mem) (𝓡 .run)))
-    (tables 𝓤 H 𝓜 𝓡 code.env .C) (tables 𝓤 H 𝓜 𝓡 code.env .Λ) #tracker·host·feed code.function (code.unfolded 𝓤 H 𝓜 𝓡)
+    (tables 𝓤 H 𝓜 𝓡 code.env .C) (tables 𝓤 H 𝓜 𝓡 code.env .Λ) #host·track·feed code.function (code.unfolded 𝓤 H 𝓜 𝓡)
     (meets 𝓤 H (𝓖 .A) (givenOf 𝓤 H 𝓜 𝓖) (𝓜 .mem) (𝓡 .run) (tablesOf 𝓤 H 𝓜 (tables 𝓤 H 𝓜 𝓡 code.env))
     (cited 𝓤 H (Called 𝓤 H (𝓖 .A) (𝓜 .mem) (𝓡 .run)) 𝓜 𝓡 code.env #tracker·feed·after-answer g-def.routine code.calls-tracker·feed·after-answer (g-thm.met 𝓤 H 𝓜 𝓖 𝓡)))

@@ -1,4 +1,4 @@
--- `sheet::list::with_lines` meets its contract: a walk of its MIR, by hand, with a loop. Each turn looks into the slice, copies the line out, shuts the slice again, and calls `with_line`.
+-- `host::list::with_lines` meets its contract: a walk of its MIR, by hand, with a loop. Each turn looks into the slice, copies the line out, shuts the slice again, and calls `with_line`.
 -- The slice is Copy: what it owns is had twice; one copy is kept whole for the exit, and of the other the fractured borrow is kept for the loop.
 -- Assumes nothing.
 use mathlib.Core.Path.{_≡_, refl, sym, _∙_}
@@ -45,22 +45,22 @@ use denote.Triple.Table.{entered, cited}
 use denote.Triple.Walked.{says, Stays, stay-none-slice, stay-none, walkOf, AllGo, goes-none-slice, goes-none, Walks, ends-at, walked, walk-meets}
 use denote.Triple.Clauses.{ensured, lasts}
 use denote.Exit.{yes}
 use Rattle.sheet.specs.Lines.{withLine, withAll}
 use Rattle.sheet.specs.declared.line.Line.{Line}
 use Rattle.sheet.specs.declared.lines.Sheet.{Sheet}
-use Rattle.sheet.proofs.Folds.{fold-start, fold-more, fold-end}
+use Rattle.host.proofs.Folds.{fold-start, fold-more, fold-end}
 use Rattle.sheet.proofs.line.Line as L
 use Rattle.sheet.proofs.line.Line.Laws as L′
 use Rattle.sheet.proofs.lines.Sheet as S
 use Rattle.sheet.proofs.lines.Sheet.Laws as S′
 use Rattle.sheet.proofs.lines.with_line as stp
 use Rattle.sheet.proofs.lines.with_line.Symbol as stp-def
 use Rattle.sheet.proofs.lines.with_line.Symbol.{name as #sheet·lines·with-line}
 use Rattle.sheet.proofs.lines.with_line.Met as stp-thm
-use Rattle.sheet.proofs.list.with_lines.Key.{name as #sheet·list·with-lines}
-use Rattle.sheet.proofs.list.with_lines as f
-use Rattle.sheet.proofs.list.with_lines.Statement as stated
-use Rattle.sheet.proofs.list.with_lines.Code as code
+use Rattle.host.proofs.list.with_lines.Key.{name as #host·list·with-lines}
+use Rattle.host.proofs.list.with_lines as f
+use Rattle.host.proofs.list.with_lines.Statement as stated
+use Rattle.host.proofs.list.with_lines.Code as code
 
 abbrev stayed : Stays (f.ended .signature .params) (f.ended .kept)
 stayed = (stay-none-slice (0 ∷ []) tt (plain (λ _. L.the-row)) yes, (stay-none (λ _. S.the-row) yes, tt))
@@ -258,6 +258,6 @@ pub with-lines-spec : {M : Type 1} → stated.statement M
 unfolding code.routine tablesOf
 with-lines-spec 𝓤 H 𝓜 𝓖 𝓡 =
     entered 𝓤 H (tripleOf 𝓤 H (𝓖 .A) f.signature (f.spec 𝓤 H (𝓖 .A) (𝓜 .mem) (𝓡 .run)))
-    (tables 𝓤 H 𝓜 𝓡 code.env .C) (tables 𝓤 H 𝓜 𝓡 code.env .Λ) #sheet·list·with-lines code.function (code.unfolded 𝓤 H 𝓜 𝓡)
+    (tables 𝓤 H 𝓜 𝓡 code.env .C) (tables 𝓤 H 𝓜 𝓡 code.env .Λ) #host·list·with-lines code.function (code.unfolded 𝓤 H 𝓜 𝓡)
     (with-lines-meets 𝓤 H (𝓖 .A) (givenOf 𝓤 H 𝓜 𝓖) (𝓜 .mem) (𝓡 .run) (tablesOf 𝓤 H 𝓜 (tables 𝓤 H 𝓜 𝓡 code.env))
     (cited 𝓤 H (Stepped 𝓤 H (𝓖 .A) (𝓜 .mem) (𝓡 .run)) 𝓜 𝓡 code.env #sheet·lines·with-line stp-def.routine code.calls-sheet·lines·with-line (stp-thm.met 𝓤 H 𝓜 𝓖 𝓡)))
