@@ -1,8 +1,8 @@
 pub mod Judges
 pub mod Readings
 pub mod Writes
-mod Tests
-mod Tidy
+pub mod Tests
+pub mod Tidy
 mod Codes
 mod Says
 mod Written

@@ -1,5 +1,5 @@
 -- What every row of the table keeps to: a test, computed over the whole table, and what it says of a row.
-use mathlib.Core.Path.{_≡_, refl, subst}
+use mathlib.Core.Path.{_≡_, refl}
 use mathlib.Core.Bool.{Bool, true, false, cond, not, _&&_, _||_}
 use mathlib.Core.List.{List, [], _∷_}
 use Prim.Native.Nat.{ℕ, _<_}
@@ -8,14 +8,13 @@ use borrow.Author.Tests.{eq-eqb, leb-true, not-true}
 use lib.Dec.{eqb, leb}
 use Rattle.frame.specs.declared.direction.Direction.{Direction}
 use Rattle.frame.specs.declared.direction.Direction.the-variants.{Command, Answer}
-use Rattle.frame.proofs.Cases.{cases}
 use Rattle.row.specs.Profile.{letterOf}
-use Rattle.row.specs.Table.{table, firstRow, rowOf}
+use Rattle.row.specs.Table.{table, rowOf}
 use Rattle.row.specs.declared.profile.Profile.{Profile}
 use Rattle.row.specs.declared.table.Codes.{Codes}
-use Rattle.row.specs.declared.table.Found.{Found}
 use Rattle.row.specs.declared.table.Found.the-variants as found
 use Rattle.row.specs.declared.table.Row.{Row}
+use Rattle.row.proofs.Rows.{Each, each-found}
 use Rattle.message.specs.Judge.{within, isWord}
 use Rattle.message.specs.Content.{valueByte, inCommand}
 use Rattle.message.proofs.Tests.{both, upto, upto-at}
@@ -28,13 +27,13 @@ pub record Tidy (dir : Direction) (row : Row) : Type 0 where
   -- F1 and F2 do not mean two things
   pub no-switch : row .steps ≡ true → row .switch ≡ false
 
--- the same as tests
-abbrev small : Codes → Codes → Bool
-small codes codes′ = leb (codes .high) 255 && leb (codes′ .high) 255
+-- the same as tests; codes of a table of bytes are bytes
+abbrev pub areBytes : Codes → Codes → Bool
+areBytes codes more = leb (codes .high) 255 && leb (more .high) 255
 
 abbrev byteCodes : Direction → Row → Bool
-byteCodes Command row = small (row .settings) (row .settings2)
-byteCodes Answer row = small (row .answers) (row .answers2)
+byteCodes Command row = areBytes (row .settings) (row .settings2)
+byteCodes Answer row = areBytes (row .answers) (row .answers2)
 
 abbrev clean : Direction → Row → ℕ → Bool
 clean dir row b = cond (valueByte dir row b) (not (inCommand dir (isWord row b)) && not (row .signed && eqb b 0x80)) true
@@ -45,16 +44,16 @@ tidy dir row = upto 256 (clean dir row) && (byteCodes dir row && not (row .steps
 within-byte : (codes : Codes) (b : ℕ) → leb (codes .high) 255 ≡ true → within codes b ≡ true → b < 256
 within-byte codes b e f = let (low, high) = both (leb (codes .low) b) (leb b (codes .high)) f in omega (arith, leb-true)
 
-small-byte : (codes codes′ : Codes) → small codes codes′ ≡ true → (b : ℕ) → within codes b || within codes′ b ≡ true → b < 256
-small-byte codes codes′ e b = go (within codes b) refl
+pub code-byte : (codes more : Codes) → areBytes codes more ≡ true → (b : ℕ) → within codes b || within more b ≡ true → b < 256
+code-byte codes more e b = go (within codes b) refl
   where
-    go : (t : Bool) → within codes b ≡ t → t || within codes′ b ≡ true → b < 256
+    go : (t : Bool) → within codes b ≡ t → t || within more b ≡ true → b < 256
     go true f h = within-byte codes b (both (leb (codes .high) 255) _ e .0) f
-    go false f h = within-byte codes′ b (both (leb (codes .high) 255) _ e .1) h
+    go false f h = within-byte more b (both (leb (codes .high) 255) _ e .1) h
 
 codes-byte : (dir : Direction) (row : Row) → byteCodes dir row ≡ true → (b : ℕ) → valueByte dir row b ≡ true → b < 256
-codes-byte Command row = small-byte (row .settings) (row .settings2)
-codes-byte Answer row = small-byte (row .answers) (row .answers2)
+codes-byte Command row = code-byte (row .settings) (row .settings2)
+codes-byte Answer row = code-byte (row .answers) (row .answers2)
 
 tidy-says : (dir : Direction) (row : Row) → tidy dir row ≡ true → Tidy dir row
 tidy-says dir row e = record { byte = byte; no-word = no-word; no-minus-zero = no-minus-zero; no-switch = no-switch }
@@ -80,20 +79,17 @@ tidy-says dir row e = record { byte = byte; no-word = no-word; no-minus-zero = n
     no-switch : row .steps ≡ true → row .switch ≡ false
     no-switch s = not-true _ (rw s at (parts .2))
 
+-- what every row of the table passes, the row that is found passes
 abbrev pub every : (Row → Bool) → List Row → Bool
 every test [] = true
 every test (row ∷ rows) = test row && every test rows
 
-abbrev Passes : (Row → Bool) → Found → Type 0
-Passes test (found.Row row) = test row ≡ true
-Passes test found.NoRow = Unit {0}
+each-of : (test : Row → Bool) (rows : List Row) → every test rows ≡ true → Each (λ r. test r ≡ true) rows
+each-of test [] e = tt
+each-of test (row ∷ rows) e = let (here, rest) = both (test row) (every test rows) e in (here, each-of test rows rest)
 
-first-passes : (test : Row → Bool) (rows : List Row) (letter command : ℕ) → every test rows ≡ true → Passes test (firstRow rows letter command)
-unfolding firstRow
-first-passes test [] letter command e = tt
-first-passes test (row ∷ rows) letter command e =
-    let (here, there) = both (test row) (every test rows) e in
-    cases (Passes test) (eqb (row .profile) letter && eqb (row .code) command) (λ f. here) (λ f. first-passes test rows letter command there)
+pub row-passes : (test : Row → Bool) → every test table ≡ true → (profile : Profile) (command : ℕ) (row : Row) → rowOf profile command ≡ found.Row row → test row ≡ true
+row-passes test all profile command row e = each-found (λ r. test r ≡ true) table (letterOf profile) command row (each-of test table all) e
 
 all-tidy : (dir : Direction) → every (tidy dir) table ≡ true
 unfolding table upto
@@ -101,5 +97,4 @@ all-tidy Command = refl
 all-tidy Answer = refl
 
 pub row-tidy : (profile : Profile) (command : ℕ) (row : Row) → rowOf profile command ≡ found.Row row → (dir : Direction) → Tidy dir row
-row-tidy profile command row e dir =
-    tidy-says dir row (subst (Passes (tidy dir)) e (first-passes (tidy dir) table (letterOf profile) command (all-tidy dir)))
+row-tidy profile command row e dir = tidy-says dir row (row-passes (tidy dir) (all-tidy dir) profile command row e)

@@ -26,10 +26,12 @@ use Rattle.message.specs.declared.content.Encoded.the-variants.{One, Two, NoCod
 use Rattle.message.specs.declared.read.Reading.the-variants as reading
 use Rattle.message.proofs.Judges.{judge-passes}
 use Rattle.message.proofs.Forms.{form-promise}
+use Rattle.message.proofs.Tests.{both, upto, upto-at}
+use Rattle.message.proofs.Tidy.{every, row-passes}
 use Rattle.unit.specs.House.{valueAfter}
 use Rattle.unit.specs.Unit.{Cell, value, input, current, Settings, isCell, put, about, Done, refused, acted, doneBy, zoneIn, commandIn, heard, frameDone}
 use Rattle.unit.specs.Legal.{Legal, RowIn}
-use Rattle.unit.proofs.Tests.{clash, both, none-of, implies, implied, upto, upto-at, every, row-passes}
+use Rattle.unit.proofs.Tests.{clash, none-of, implies, implied}
 use Rattle.unit.proofs.Houses.{well, house-promise}
 use Rattle.unit.proofs.Sets.{row-there}
 use Rattle.unit.proofs.Cells.{put-same}

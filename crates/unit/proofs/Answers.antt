@@ -28,12 +28,12 @@ use Rattle.message.specs.declared.read.Reading.the-variants as reading
 use Rattle.message.proofs.Order.{order-promise}
 use Rattle.message.proofs.Readings.{frame-some}
 use Rattle.message.specs.FormPromise.{LegalData}
+use Rattle.message.proofs.Tests.{both}
 use Rattle.unit.specs.House.{valueAfter}
 use Rattle.unit.specs.Unit.{Cell, value, input, current, Settings, put, about, shown, Done, refusalCode, acted, zoneIn, commandIn, heard, frameDone}
 use Rattle.unit.specs.Legal.{Legal}
 use Rattle.unit.specs.Sending.{Each, Bytes}
 use Rattle.unit.specs.UnitPromise.{Told, Denied, DonePromise}
-use Rattle.unit.proofs.Tests.{both}
 use Rattle.unit.proofs.Cells.{cell-self}
 use Rattle.unit.proofs.Houses.{well}
 use Rattle.unit.proofs.Acts.{either, bit-small, paired-form, rowFor, Accepted, accepted, done-refused, done-acted, made-legal, frame-legal, frame-now}

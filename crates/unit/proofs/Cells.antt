@@ -4,9 +4,10 @@ use mathlib.Core.Bool.{Bool, true, false, cond}
 use mathlib.Core.List.{List, [], _∷_}
 use borrow.Author.Tests.{eq-eqb, eqb-true}
 use lib.Dec.{eqb}
+use Rattle.message.proofs.Tests.{both}
 use Rattle.unit.specs.Unit.{Cell, value, input, current, Settings, isCell, put}
 use Rattle.unit.specs.Sending.{Each}
-use Rattle.unit.proofs.Tests.{clash, both}
+use Rattle.unit.proofs.Tests.{clash}
 
 pub is-cell : (x y : Cell) → isCell x y ≡ true → x ≡ y
 is-cell (value z c) (value z′ c′) e =

@@ -27,9 +27,11 @@ use Rattle.message.specs.declared.content.Content.the-variants.{Request, Up, Do
 use Rattle.message.specs.declared.content.Encoded.{Encoded}
 use Rattle.message.specs.declared.content.Encoded.the-variants.{One, Two, NoCode}
 use Rattle.message.proofs.Forms.{form-promise}
+use Rattle.message.proofs.Tests.{both, upto, upto-at}
+use Rattle.message.proofs.Tidy.{areBytes, code-byte, every, row-passes}
 use Rattle.unit.specs.House.{isNotCalculated, unlessNotCalculated, landed, stepped, coded, valueAfter}
 use Rattle.unit.specs.HousePromise.{IsNumber, Highest, Lowest, Steps, HousePromise}
-use Rattle.unit.proofs.Tests.{clash, both, none-of, implies, implied, upto, upto-at, areBytes, code-byte, every, row-passes}
+use Rattle.unit.proofs.Tests.{clash, none-of, implies, implied}
 
 -- a step: where the next number has no code among the answers the value is the end; where it has one it is not off
 abbrev isNumber : Row → ℕ → Bool

@@ -23,6 +23,8 @@ use Rattle.message.specs.declared.read.Message.the-variants as message
 use Rattle.message.specs.declared.read.Reading.the-variants as reading
 use Rattle.message.proofs.Judges.{judged-legal, judge-legal}
 use Rattle.message.proofs.Readings.{said-legal, message-said}
+use Rattle.message.proofs.Tests.{both}
+use Rattle.message.proofs.Tidy.{every, row-passes}
 use Rattle.sheet.specs.Line.{legalIn, isLegal}
 use Rattle.sheet.specs.Run.{lineFrame}
 use Rattle.sheet.specs.declared.line.Line.{Line}
@@ -30,7 +32,7 @@ use Rattle.unit.specs.House.{isNotCalculated, valueAfter}
 use Rattle.unit.specs.Unit.{Cell, value, Settings, put, about, shown, Done, doneBy, frameDone}
 use Rattle.unit.specs.Sending.{cellOf}
 use Rattle.unit.specs.UnitPromise.{LinePromise}
-use Rattle.unit.proofs.Tests.{clash, both, implies, implied, every, row-passes}
+use Rattle.unit.proofs.Tests.{clash, implies, implied}
 use Rattle.unit.proofs.Cells.{cell-self}
 use Rattle.unit.proofs.Houses.{house-promise}
 

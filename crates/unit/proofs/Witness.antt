@@ -17,6 +17,7 @@ use Rattle.row.specs.declared.table.Row.{Row}
 use Rattle.message.specs.Judge.{isAnswer, rowJudged}
 use Rattle.message.specs.Content.{contentOf}
 use Rattle.message.specs.Message.{readOf}
+use Rattle.message.proofs.Tidy.{every, row-passes}
 use Rattle.sheet.specs.Lines.{inOrder}
 use Rattle.sheet.specs.Line.{isLegal, isRepeated}
 use Rattle.sheet.specs.Check.{lowestFault, sheetVerdict}
@@ -29,7 +30,6 @@ use Rattle.unit.specs.Sending.{cellOf, sending, sendings}
 use Rattle.unit.specs.UnitTablePromise.{zeros}
 use Rattle.unit.specs.Demand3.{stopped, Promised}
 use Rattle.unit.specs.SendingPromise.{SendingPromise, FlushPromise}
-use Rattle.unit.proofs.Tests.{every, row-passes}
 use Rattle.unit.proofs.Sets.{row-there}
 use Rattle.unit.proofs.Sendings.{sending-promise}
 use Rattle.unit.proofs.Demand.{demand-3}
