@@ -21,7 +21,7 @@ use frame::reader::ByteAnswer;
 use frame::reader::Reader;
 
 // An operation on a capture or on the bytes of frames.
-pub fn operate(operation: u8, space: &[u8], ends: [usize; 14], count: usize) {
+pub(crate) fn operate(operation: u8, space: &[u8], ends: [usize; 14], count: usize) {
     if operation == names::PART {
         let place = number(space, ends, 1) as usize;
         let length = number(space, ends, 2) as usize;

@@ -23,7 +23,7 @@ use row::table::Found;
 use sheet::line::Line;
 
 // An operation on messages that are read, and on codes and rows.
-pub fn operate(operation: u8, space: &[u8], ends: [usize; 14]) {
+pub(crate) fn operate(operation: u8, space: &[u8], ends: [usize; 14]) {
     if operation == names::NUMBER {
         let number = row::signed::number_of(byte(space, ends, 1));
         say_integer(b"", number);
@@ -118,7 +118,7 @@ fn directed(
 }
 
 // A message, or the number of its refusal; the data are a denied one's.
-pub fn say_reading(reading: Reading, body: &[u8]) {
+pub(crate) fn say_reading(reading: Reading, body: &[u8]) {
     match reading {
         Reading::Message(message) => say_message(message, body),
         Reading::Refused(number) => say_counted(b"refused ", number as u64),
@@ -162,7 +162,7 @@ fn say_denied(denial: Denial, body: &[u8]) {
     say_bytes(body)
 }
 
-pub fn say_content(content: Content) {
+pub(crate) fn say_content(content: Content) {
     match content {
         Content::Request => say(b"request"),
         Content::Up => say(b"up"),
@@ -177,7 +177,7 @@ pub fn say_content(content: Content) {
 }
 
 // A word, and a number that may be below zero.
-pub fn say_integer(word: &[u8], number: i16) {
+pub(crate) fn say_integer(word: &[u8], number: i16) {
     say(word);
     if number < 0 {
         say_counted(b"-", size_of(number) as u64);
@@ -204,7 +204,7 @@ fn say_input(input: u8, on: bool) {
 }
 
 // The answer of a write, and the buffer after it.
-pub fn say_written(written: Written, buf: &[u8]) {
+pub(crate) fn say_written(written: Written, buf: &[u8]) {
     match written {
         Written::Bytes(count) => {
             say_counted(b"bytes ", count as u64);
@@ -217,13 +217,13 @@ pub fn say_written(written: Written, buf: &[u8]) {
     }
 }
 
-pub fn say_buffer(buf: &[u8]) {
+pub(crate) fn say_buffer(buf: &[u8]) {
     say(b" : ");
     say_bytes(buf)
 }
 
 // What a message to be written says, by its number in tests/README.md.
-pub fn content(form: u8, number: i16, input: u8, on: bool) -> Content {
+pub(crate) fn content(form: u8, number: i16, input: u8, on: bool) -> Content {
     if form == 0 {
         return Content::Request;
     }
@@ -252,7 +252,7 @@ pub fn content(form: u8, number: i16, input: u8, on: bool) -> Content {
 }
 
 // Two bytes as a number, two's complement.
-pub fn signed(value: u16) -> i16 {
+pub(crate) fn signed(value: u16) -> i16 {
     if value < 32768 {
         return value as i16;
     }

@@ -2,79 +2,79 @@
 use crate::words::fits;
 use crate::words::is;
 
-pub const FEED: u8 = 1;
+pub(crate) const FEED: u8 = 1;
 
-pub const PARTS: u8 = 2;
+pub(crate) const PARTS: u8 = 2;
 
-pub const EVENTS: u8 = 3;
+pub(crate) const EVENTS: u8 = 3;
 
-pub const EVENT: u8 = 4;
+pub(crate) const EVENT: u8 = 4;
 
-pub const TOTALS: u8 = 5;
+pub(crate) const TOTALS: u8 = 5;
 
-pub const FIELDS: u8 = 6;
+pub(crate) const FIELDS: u8 = 6;
 
-pub const PART: u8 = 7;
+pub(crate) const PART: u8 = 7;
 
-pub const LAST: u8 = 8;
+pub(crate) const LAST: u8 = 8;
 
-pub const PAIRS: u8 = 9;
+pub(crate) const PAIRS: u8 = 9;
 // from here on of messages that are read
-pub const FRAME: u8 = 20;
+pub(crate) const FRAME: u8 = 20;
 
-pub const READ: u8 = 21;
+pub(crate) const READ: u8 = 21;
 
-pub const ALL: u8 = 22;
+pub(crate) const ALL: u8 = 22;
 
-pub const CODES: u8 = 23;
+pub(crate) const CODES: u8 = 23;
 
-pub const NUMBER: u8 = 24;
+pub(crate) const NUMBER: u8 = 24;
 
-pub const CODE: u8 = 25;
+pub(crate) const CODE: u8 = 25;
 
-pub const PLAIN: u8 = 26;
+pub(crate) const PLAIN: u8 = 26;
 
-pub const ROW: u8 = 27;
+pub(crate) const ROW: u8 = 27;
 
-pub const LEGAL: u8 = 28;
+pub(crate) const LEGAL: u8 = 28;
 // from here on of sheets and trackers
-pub const CHECK: u8 = 40;
+pub(crate) const CHECK: u8 = 40;
 
-pub const SIGN: u8 = 41;
+pub(crate) const SIGN: u8 = 41;
 
-pub const CELL: u8 = 42;
+pub(crate) const CELL: u8 = 42;
 // from here on those that write into a buffer
-pub const WRITE: u8 = 60;
+pub(crate) const WRITE: u8 = 60;
 
-pub const SEND: u8 = 61;
+pub(crate) const SEND: u8 = 61;
 
-pub const RAW: u8 = 62;
+pub(crate) const RAW: u8 = 62;
 
-pub const COPY: u8 = 63;
+pub(crate) const COPY: u8 = 63;
 
-pub const RUN: u8 = 64;
+pub(crate) const RUN: u8 = 64;
 
-pub const DECIMAL: u8 = 65;
+pub(crate) const DECIMAL: u8 = 65;
 
-pub const HEX: u8 = 66;
+pub(crate) const HEX: u8 = 66;
 // from here on the listing
-pub const LISTING: u8 = 80;
+pub(crate) const LISTING: u8 = 80;
 
-pub const PIECES: u8 = 81;
+pub(crate) const PIECES: u8 = 81;
 
-pub const UNKNOWN: u8 = 255;
+pub(crate) const UNKNOWN: u8 = 255;
 
 // Where the groups begin.
-pub const READS: u8 = 20;
+pub(crate) const READS: u8 = 20;
 
-pub const SHEETS: u8 = 40;
+pub(crate) const SHEETS: u8 = 40;
 
-pub const WRITES: u8 = 60;
+pub(crate) const WRITES: u8 = 60;
 
-pub const LISTS: u8 = 80;
+pub(crate) const LISTS: u8 = 80;
 
 // The operation that a line is; UNKNOWN where it is none or its arguments are not those of the operation.
-pub fn operation(name: &[u8], space: &[u8], ends: [usize; 14], count: usize) -> u8 {
+pub(crate) fn operation(name: &[u8], space: &[u8], ends: [usize; 14], count: usize) -> u8 {
     let named = by_name(name);
     if fits_operation(named, space, ends, count) {
         return named;

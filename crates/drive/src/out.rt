@@ -1,21 +1,21 @@
 // What is printed, on standard output.
 const OUT: i32 = 1;
 
-pub fn say(part: &[u8]) {
+pub(crate) fn say(part: &[u8]) {
     io::write_all(OUT, part);
 }
 
-pub fn say_number(number: u64) {
+pub(crate) fn say_number(number: u64) {
     io::print_decimal(OUT, number);
 }
 
 // A word, and a number behind it.
-pub fn say_counted(word: &[u8], number: u64) {
+pub(crate) fn say_counted(word: &[u8], number: u64) {
     io::write_all(OUT, word);
     io::print_decimal(OUT, number);
 }
 
-pub fn say_byte(byte: u8) {
+pub(crate) fn say_byte(byte: u8) {
     io::write_all(OUT, &[digit(byte / 16), digit(byte % 16)]);
 }
 
@@ -30,7 +30,7 @@ fn digit(value: u8) -> u8 {
 }
 
 // Bytes as hex digits, run together; a dash for none.
-pub fn say_bytes(bytes: &[u8]) {
+pub(crate) fn say_bytes(bytes: &[u8]) {
     if bytes.len() == 0 {
         say(b"-");
         return;
@@ -65,7 +65,7 @@ fn with_room(gathered: &[u8], at: usize) -> usize {
 }
 
 // One byte more, where there is room.
-pub fn put_byte(to: &mut [u8], count: usize, byte: u8) -> usize {
+pub(crate) fn put_byte(to: &mut [u8], count: usize, byte: u8) -> usize {
     if count >= to.len() {
         return count;
     }

@@ -14,7 +14,7 @@ use tracker::plain::CaptureCell;
 use tracker::sign::Signed;
 
 // An operation on sheet files that writes nothing, and on trackers.
-pub fn operate(operation: u8, space: &[u8], ends: [usize; 14]) {
+pub(crate) fn operate(operation: u8, space: &[u8], ends: [usize; 14]) {
     let letter = byte(space, ends, 1);
     let bytes = argument(space, ends, 2);
     if operation == names::CHECK {
@@ -69,7 +69,7 @@ fn say_line(line: Line, own: bool) {
     say_byte(line.value)
 }
 
-pub fn say_written(written: SheetWritten, buf: &[u8]) {
+pub(crate) fn say_written(written: SheetWritten, buf: &[u8]) {
     match written {
         SheetWritten::Bytes(count) => {
             say_counted(b"bytes ", count as u64);

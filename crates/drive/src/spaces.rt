@@ -14,7 +14,7 @@ use row::profile::Profile;
 const BYTES: u16 = 256;
 
 // How many messages were accepted and how many got each refusal.
-pub struct Counts {
+pub(crate) struct Counts {
     accepted: u64,
     first: u64,
     second: u64,
@@ -35,7 +35,7 @@ fn none() -> Counts {
 }
 
 // Every zone, command and data byte.
-pub fn all(profile: Profile, direction: Direction) {
+pub(crate) fn all(profile: Profile, direction: Direction) {
     let mut counts = none();
     for zone in 0..BYTES {
         counts = all_commands(profile, direction, zone as u8, counts);
@@ -66,7 +66,7 @@ fn all_bytes(
 }
 
 // Every data of two bytes of S 0F in zone 1.
-pub fn pairs(direction: Direction) {
+pub(crate) fn pairs(direction: Direction) {
     let mut counts = none();
     for first in 0..BYTES {
         counts = pairs_from(direction, first as u8, counts);
@@ -169,7 +169,7 @@ fn say_counts(counts: Counts) {
 }
 
 // An answer with every answer code, a line each.
-pub fn codes(profile: Profile, zone: u8, command: u8, body: &[u8]) {
+pub(crate) fn codes(profile: Profile, zone: u8, command: u8, body: &[u8]) {
     for code in 0..BYTES {
         one_code(profile, zone, command, code as u8, body);
     }

@@ -8,7 +8,7 @@ use text::listing::list_piece;
 const PIECES: u32 = 100000;
 
 // The listing through a lent buffer, all its lines.
-pub fn listing(input: &[u8], buf: &mut [u8]) {
+pub(crate) fn listing(input: &[u8], buf: &mut [u8]) {
     let mut place = Place::Start;
     for turn in 0..PIECES {
         let answer = list_piece(input, place, buf);

@@ -1,12 +1,12 @@
 // The words of a line, and the bytes that its arguments are.
 
 // The most arguments that an operation has.
-pub const MOST: usize = 13;
+pub(crate) const MOST: usize = 13;
 
 // A word that is no bytes.
 const BAD: usize = 18446744073709551615;
 
-pub fn is_comment(line: &[u8]) -> bool {
+pub(crate) fn is_comment(line: &[u8]) -> bool {
     if line.len() == 0 {
         return false;
     }
@@ -15,12 +15,12 @@ pub fn is_comment(line: &[u8]) -> bool {
 
 // How many arguments a line has, and where each ends in the space that they were decoded into; more than MOST where
 // one is no bytes or there are too many.
-pub struct Arguments {
+pub(crate) struct Arguments {
     pub count: usize,
     pub ends: [usize; 14],
 }
 
-pub fn decoded(line: &[u8], space: &mut [u8]) -> Arguments {
+pub(crate) fn decoded(line: &[u8], space: &mut [u8]) -> Arguments {
     let count = spaces_in(line);
     let mut ends = [0usize; 14];
     if count > MOST {
@@ -48,7 +48,7 @@ pub fn decoded(line: &[u8], space: &mut [u8]) -> Arguments {
 }
 
 // The word at a place of the line, the operation's name at 0; no bytes where there is none.
-pub fn word(line: &[u8], place: usize) -> &[u8] {
+pub(crate) fn word(line: &[u8], place: usize) -> &[u8] {
     let start = word_start(line, place);
     let end = word_end(line, start);
     frame::fields::bytes_at(line, start, std::num::wrapping_sub_usize(end, start))
@@ -90,7 +90,7 @@ fn spaces_in(line: &[u8]) -> usize {
 }
 
 // Whether a word is a name.
-pub fn is(word: &[u8], name: &[u8]) -> bool {
+pub(crate) fn is(word: &[u8], name: &[u8]) -> bool {
     if word.len() != name.len() {
         return false;
     }
@@ -160,7 +160,7 @@ fn digit(letter: u8) -> u8 {
 }
 
 // The bytes of an argument, the first at 1.
-pub fn argument(space: &[u8], ends: [usize; 14], place: usize) -> &[u8] {
+pub(crate) fn argument(space: &[u8], ends: [usize; 14], place: usize) -> &[u8] {
     if place == 0 {
         return &space[..0];
     }
@@ -176,7 +176,7 @@ pub fn argument(space: &[u8], ends: [usize; 14], place: usize) -> &[u8] {
 }
 
 // An argument of one byte; 0 where it is none.
-pub fn byte(space: &[u8], ends: [usize; 14], place: usize) -> u8 {
+pub(crate) fn byte(space: &[u8], ends: [usize; 14], place: usize) -> u8 {
     let bytes = argument(space, ends, place);
     if bytes.len() != 1 {
         return 0;
@@ -185,7 +185,7 @@ pub fn byte(space: &[u8], ends: [usize; 14], place: usize) -> u8 {
 }
 
 // An argument as a number, the most significant byte first; of its last 8 bytes.
-pub fn number(space: &[u8], ends: [usize; 14], place: usize) -> u64 {
+pub(crate) fn number(space: &[u8], ends: [usize; 14], place: usize) -> u64 {
     number_of(argument(space, ends, place))
 }
 
@@ -203,7 +203,7 @@ fn wide(byte: u8) -> u64 {
 
 // Whether the arguments have the shape of an operation: a letter for each, `1` one byte, `2` two bytes, `n` a number,
 // `s` one below 65,536, `l` a length of at most 4,096, `*` any bytes; `+` one or more of any bytes.
-pub fn fits(space: &[u8], ends: [usize; 14], count: usize, shape: &[u8]) -> bool {
+pub(crate) fn fits(space: &[u8], ends: [usize; 14], count: usize, shape: &[u8]) -> bool {
     if count > MOST {
         return false;
     }

@@ -18,7 +18,7 @@ use message::write::write_message;
 use row::profile::Profile;
 use sheet::write::SheetWritten;
 
-pub fn operate(operation: u8, space: &[u8], ends: [usize; 14], room: &mut [u8]) {
+pub(crate) fn operate(operation: u8, space: &[u8], ends: [usize; 14], room: &mut [u8]) {
     let place = length_place(operation);
     let length = (number(space, ends, place) % 4097) as usize;
     if length > room.len() {
@@ -181,7 +181,7 @@ fn message_of(space: &[u8], ends: [usize; 14]) -> Message {
 }
 
 // Whether a `write` has a kind and a form.
-pub fn is_written(space: &[u8], ends: [usize; 14]) -> bool {
+pub(crate) fn is_written(space: &[u8], ends: [usize; 14]) -> bool {
     let kind = byte(space, ends, 4);
     if kind == b'D' {
         return true;
