@@ -21,7 +21,7 @@ use frame::reader::ByteAnswer;
 use frame::reader::Reader;
 
 // An operation on a capture or on the bytes of frames.
-pub(crate) fn operate(operation: u8, space: &[u8], ends: [usize; 14], count: usize) {
+pub(crate) fn operate(operation: usize, space: &[u8], ends: [usize; 14], count: usize) {
     if operation == names::PART {
         let place = number(space, ends, 1) as usize;
         let length = number(space, ends, 2) as usize;
@@ -41,7 +41,7 @@ pub(crate) fn operate(operation: u8, space: &[u8], ends: [usize; 14], count: usi
     }
 }
 
-fn directed(operation: u8, direction: Direction, space: &[u8], ends: [usize; 14], count: usize) {
+fn directed(operation: usize, direction: Direction, space: &[u8], ends: [usize; 14], count: usize) {
     if operation == names::PARTS {
         parts(
             direction,
@@ -68,7 +68,7 @@ fn directed(operation: u8, direction: Direction, space: &[u8], ends: [usize; 14]
     )
 }
 
-fn captured(operation: u8, letter: u8, direction: Direction, bytes: &[u8]) {
+fn captured(operation: usize, letter: u8, direction: Direction, bytes: &[u8]) {
     if operation == names::FEED {
         feed(direction, bytes);
         return;

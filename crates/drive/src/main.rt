@@ -95,7 +95,7 @@ fn operate(line: &[u8], space: &mut [u8], room: &mut [u8]) {
     out::say(b"\n")
 }
 
-fn run(operation: u8, space: &[u8], ends: [usize; 14], count: usize, room: &mut [u8]) {
+fn run(operation: usize, space: &[u8], ends: [usize; 14], count: usize, room: &mut [u8]) {
     if operation < names::READS {
         frames::operate(operation, space, ends, count);
         return;
@@ -117,7 +117,7 @@ fn run(operation: u8, space: &[u8], ends: [usize; 14], count: usize, room: &mut 
     writes::operate(operation, space, ends, room)
 }
 
-fn list(operation: u8, space: &[u8], ends: [usize; 14], room: &mut [u8]) {
+fn list(operation: usize, space: &[u8], ends: [usize; 14], room: &mut [u8]) {
     if operation == names::LISTING {
         texts::listing(words::argument(space, ends, 1), room);
         return;

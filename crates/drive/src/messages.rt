@@ -23,7 +23,7 @@ use row::table::Found;
 use sheet::line::Line;
 
 // An operation on messages that are read, and on codes and rows.
-pub(crate) fn operate(operation: u8, space: &[u8], ends: [usize; 14]) {
+pub(crate) fn operate(operation: usize, space: &[u8], ends: [usize; 14]) {
     if operation == names::NUMBER {
         let number = row::signed::number_of(byte(space, ends, 1));
         say_integer(b"", number);
@@ -52,7 +52,7 @@ fn say_code(coded: Coded) {
     }
 }
 
-fn profiled(operation: u8, profile: Profile, space: &[u8], ends: [usize; 14]) {
+fn profiled(operation: usize, profile: Profile, space: &[u8], ends: [usize; 14]) {
     if operation == names::ROW {
         say_row(row::table::find_row(profile, byte(space, ends, 2)));
         return;
@@ -95,7 +95,7 @@ fn say_legal(legal: bool) {
 }
 
 fn directed(
-    operation: u8,
+    operation: usize,
     profile: Profile,
     direction: Direction,
     space: &[u8],

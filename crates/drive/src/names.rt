@@ -1,294 +1,197 @@
 // The operations by their names, and the arguments that each has.
 use crate::words::fits;
-use crate::words::is;
 
-pub(crate) const FEED: u8 = 1;
+pub(crate) const FEED: usize = 0;
 
-pub(crate) const PARTS: u8 = 2;
+pub(crate) const PARTS: usize = 1;
 
-pub(crate) const EVENTS: u8 = 3;
+pub(crate) const EVENTS: usize = 2;
 
-pub(crate) const EVENT: u8 = 4;
+pub(crate) const EVENT: usize = 3;
 
-pub(crate) const TOTALS: u8 = 5;
+pub(crate) const TOTALS: usize = 4;
 
-pub(crate) const FIELDS: u8 = 6;
+pub(crate) const FIELDS: usize = 5;
 
-pub(crate) const PART: u8 = 7;
+pub(crate) const PART: usize = 6;
 
-pub(crate) const LAST: u8 = 8;
+pub(crate) const LAST: usize = 7;
 
-pub(crate) const PAIRS: u8 = 9;
+pub(crate) const PAIRS: usize = 8;
 // from here on of messages that are read
-pub(crate) const FRAME: u8 = 20;
+pub(crate) const FRAME: usize = 9;
 
-pub(crate) const READ: u8 = 21;
+pub(crate) const READ: usize = 10;
 
-pub(crate) const ALL: u8 = 22;
+pub(crate) const ALL: usize = 11;
 
-pub(crate) const CODES: u8 = 23;
+pub(crate) const CODES: usize = 12;
 
-pub(crate) const NUMBER: u8 = 24;
+pub(crate) const NUMBER: usize = 13;
 
-pub(crate) const CODE: u8 = 25;
+pub(crate) const CODE: usize = 14;
 
-pub(crate) const PLAIN: u8 = 26;
+pub(crate) const PLAIN: usize = 15;
 
-pub(crate) const ROW: u8 = 27;
+pub(crate) const ROW: usize = 16;
 
-pub(crate) const LEGAL: u8 = 28;
+pub(crate) const LEGAL: usize = 17;
 // from here on of sheets and trackers
-pub(crate) const CHECK: u8 = 40;
+pub(crate) const CHECK: usize = 18;
 
-pub(crate) const SIGN: u8 = 41;
+pub(crate) const SIGN: usize = 19;
 
-pub(crate) const CELL: u8 = 42;
+pub(crate) const CELL: usize = 20;
 // from here on those that write into a buffer
-pub(crate) const WRITE: u8 = 60;
+pub(crate) const WRITE: usize = 21;
 
-pub(crate) const SEND: u8 = 61;
+pub(crate) const SEND: usize = 22;
 
-pub(crate) const RAW: u8 = 62;
+pub(crate) const RAW: usize = 23;
 
-pub(crate) const COPY: u8 = 63;
+pub(crate) const COPY: usize = 24;
 
-pub(crate) const RUN: u8 = 64;
+pub(crate) const RUN: usize = 25;
 
-pub(crate) const DECIMAL: u8 = 65;
+pub(crate) const DECIMAL: usize = 26;
 
-pub(crate) const HEX: u8 = 66;
+pub(crate) const HEX: usize = 27;
 // from here on the listing
-pub(crate) const LISTING: u8 = 80;
+pub(crate) const LISTING: usize = 28;
 
-pub(crate) const PIECES: u8 = 81;
+pub(crate) const PIECES: usize = 29;
 
-pub(crate) const UNKNOWN: u8 = 255;
+pub(crate) const UNKNOWN: usize = 30;
 
 // Where the groups begin.
-pub(crate) const READS: u8 = 20;
+pub(crate) const READS: usize = 9;
 
-pub(crate) const SHEETS: u8 = 40;
+pub(crate) const SHEETS: usize = 18;
 
-pub(crate) const WRITES: u8 = 60;
+pub(crate) const WRITES: usize = 21;
 
-pub(crate) const LISTS: u8 = 80;
+pub(crate) const LISTS: usize = 28;
+
+// The names, in the order of their numbers, with zeros behind.
+const NAMES: [[u8; 7]; 30] = [
+    [b'f', b'e', b'e', b'd', 0, 0, 0],
+    [b'p', b'a', b'r', b't', b's', 0, 0],
+    [b'e', b'v', b'e', b'n', b't', b's', 0],
+    [b'e', b'v', b'e', b'n', b't', 0, 0],
+    [b't', b'o', b't', b'a', b'l', b's', 0],
+    [b'f', b'i', b'e', b'l', b'd', b's', 0],
+    [b'p', b'a', b'r', b't', 0, 0, 0],
+    [b'l', b'a', b's', b't', 0, 0, 0],
+    [b'p', b'a', b'i', b'r', b's', 0, 0],
+    [b'f', b'r', b'a', b'm', b'e', 0, 0],
+    [b'r', b'e', b'a', b'd', 0, 0, 0],
+    [b'a', b'l', b'l', 0, 0, 0, 0],
+    [b'c', b'o', b'd', b'e', b's', 0, 0],
+    [b'n', b'u', b'm', b'b', b'e', b'r', 0],
+    [b'c', b'o', b'd', b'e', 0, 0, 0],
+    [b'p', b'l', b'a', b'i', b'n', 0, 0],
+    [b'r', b'o', b'w', 0, 0, 0, 0],
+    [b'l', b'e', b'g', b'a', b'l', 0, 0],
+    [b'c', b'h', b'e', b'c', b'k', 0, 0],
+    [b's', b'i', b'g', b'n', 0, 0, 0],
+    [b'c', b'e', b'l', b'l', 0, 0, 0],
+    [b'w', b'r', b'i', b't', b'e', 0, 0],
+    [b's', b'e', b'n', b'd', 0, 0, 0],
+    [b'r', b'a', b'w', 0, 0, 0, 0],
+    [b'c', b'o', b'p', b'y', 0, 0, 0],
+    [b'r', b'u', b'n', 0, 0, 0, 0],
+    [b'd', b'e', b'c', b'i', b'm', b'a', b'l'],
+    [b'h', b'e', b'x', 0, 0, 0, 0],
+    [b'l', b'i', b's', b't', b'i', b'n', b'g'],
+    [b'p', b'i', b'e', b'c', b'e', b's', 0],
+];
+
+// The arguments of each, as `fits` reads them, with zeros behind.
+const SHAPES: [[u8; 11]; 30] = [
+    [b'1', b'*', 0, 0, 0, 0, 0, 0, 0, 0, 0],
+    [b'1', b'+', 0, 0, 0, 0, 0, 0, 0, 0, 0],
+    [b'1', b'*', 0, 0, 0, 0, 0, 0, 0, 0, 0],
+    [b'1', b'n', b'*', 0, 0, 0, 0, 0, 0, 0, 0],
+    [b'1', b'*', 0, 0, 0, 0, 0, 0, 0, 0, 0],
+    [b'1', b'*', 0, 0, 0, 0, 0, 0, 0, 0, 0],
+    [b'n', b'n', b'*', 0, 0, 0, 0, 0, 0, 0, 0],
+    [b'n', b'*', 0, 0, 0, 0, 0, 0, 0, 0, 0],
+    [b'1', 0, 0, 0, 0, 0, 0, 0, 0, 0, 0],
+    [b'1', b'1', b'*', 0, 0, 0, 0, 0, 0, 0, 0],
+    [b'1', b'1', b'1', b'1', b'1', b'*', 0, 0, 0, 0, 0],
+    [b'1', b'1', 0, 0, 0, 0, 0, 0, 0, 0, 0],
+    [b'1', b'1', b'1', b'*', 0, 0, 0, 0, 0, 0, 0],
+    [b'1', 0, 0, 0, 0, 0, 0, 0, 0, 0, 0],
+    [b'2', 0, 0, 0, 0, 0, 0, 0, 0, 0, 0],
+    [b'2', 0, 0, 0, 0, 0, 0, 0, 0, 0, 0],
+    [b'1', b'1', 0, 0, 0, 0, 0, 0, 0, 0, 0],
+    [b'1', b'1', b'1', b'1', 0, 0, 0, 0, 0, 0, 0],
+    [b'1', b'*', 0, 0, 0, 0, 0, 0, 0, 0, 0],
+    [b'1', b'*', b'*', 0, 0, 0, 0, 0, 0, 0, 0],
+    [b'1', b'*', b'1', b'1', 0, 0, 0, 0, 0, 0, 0],
+    [
+        b'1',
+        b'l',
+        b'n',
+        b'1',
+        b'1',
+        b'1',
+        b'1',
+        b'1',
+        b'2',
+        b'1',
+        b'*',
+    ],
+    [b'1', b'1', b'l', b'n', b'1', b'1', b'1', b'*', 0, 0, 0],
+    [b'1', b'l', b'n', b'1', b'1', b'1', b'*', 0, 0, 0, 0],
+    [b'1', b'l', b'n', b'*', 0, 0, 0, 0, 0, 0, 0],
+    [b'1', b'l', b'n', b'*', 0, 0, 0, 0, 0, 0, 0],
+    [b'l', b'n', b's', 0, 0, 0, 0, 0, 0, 0, 0],
+    [b'l', b'n', b'1', 0, 0, 0, 0, 0, 0, 0, 0],
+    [b'*', 0, 0, 0, 0, 0, 0, 0, 0, 0, 0],
+    [b'l', b'*', 0, 0, 0, 0, 0, 0, 0, 0, 0],
+];
 
 // The operation that a line is; UNKNOWN where it is none or its arguments are not those of the operation.
-pub(crate) fn operation(name: &[u8], space: &[u8], ends: [usize; 14], count: usize) -> u8 {
-    let named = by_name(name);
-    if fits_operation(named, space, ends, count) {
-        return named;
+pub(crate) fn operation(name: &[u8], space: &[u8], ends: [usize; 14], count: usize) -> usize {
+    let place = find(name);
+    if place >= UNKNOWN {
+        return UNKNOWN;
+    }
+    let shapes = SHAPES;
+    if fits(space, ends, count, shapes[place]) {
+        return place;
     }
     UNKNOWN
 }
 
-fn by_name(name: &[u8]) -> u8 {
-    let capture = capture_name(name);
-    if capture != UNKNOWN {
-        return capture;
-    }
-    let read = read_name(name);
-    if read != UNKNOWN {
-        return read;
-    }
-    write_name(name)
-}
-
-fn capture_name(name: &[u8]) -> u8 {
-    if is(name, b"feed") {
-        return FEED;
-    }
-    if is(name, b"parts") {
-        return PARTS;
-    }
-    if is(name, b"events") {
-        return EVENTS;
-    }
-    if is(name, b"event") {
-        return EVENT;
-    }
-    if is(name, b"totals") {
-        return TOTALS;
-    }
-    if is(name, b"fields") {
-        return FIELDS;
-    }
-    if is(name, b"part") {
-        return PART;
-    }
-    if is(name, b"last") {
-        return LAST;
-    }
-    if is(name, b"pairs") {
-        return PAIRS;
+fn find(name: &[u8]) -> usize {
+    let names = NAMES;
+    for i in 0..UNKNOWN {
+        if is(name, names[i]) {
+            return i;
+        }
     }
     UNKNOWN
 }
 
-fn read_name(name: &[u8]) -> u8 {
-    if is(name, b"frame") {
-        return FRAME;
+// Whether a word is a name with zeros behind.
+fn is(word: &[u8], name: [u8; 7]) -> bool {
+    if word.len() > 7 {
+        return false;
     }
-    if is(name, b"read") {
-        return READ;
+    for i in 0..7 {
+        if name[i] != letter(word, i) {
+            return false;
+        }
     }
-    if is(name, b"all") {
-        return ALL;
-    }
-    if is(name, b"codes") {
-        return CODES;
-    }
-    if is(name, b"number") {
-        return NUMBER;
-    }
-    if is(name, b"code") {
-        return CODE;
-    }
-    if is(name, b"plain") {
-        return PLAIN;
-    }
-    if is(name, b"row") {
-        return ROW;
-    }
-    if is(name, b"legal") {
-        return LEGAL;
-    }
-    if is(name, b"check") {
-        return CHECK;
-    }
-    if is(name, b"sign") {
-        return SIGN;
-    }
-    if is(name, b"cell") {
-        return CELL;
-    }
-    UNKNOWN
+    true
 }
 
-fn write_name(name: &[u8]) -> u8 {
-    if is(name, b"write") {
-        return WRITE;
+// A letter of a word; 0 behind its end.
+fn letter(word: &[u8], place: usize) -> u8 {
+    if place < word.len() {
+        return word[place];
     }
-    if is(name, b"send") {
-        return SEND;
-    }
-    if is(name, b"raw") {
-        return RAW;
-    }
-    if is(name, b"copy") {
-        return COPY;
-    }
-    if is(name, b"run") {
-        return RUN;
-    }
-    if is(name, b"decimal") {
-        return DECIMAL;
-    }
-    if is(name, b"hex") {
-        return HEX;
-    }
-    if is(name, b"listing") {
-        return LISTING;
-    }
-    if is(name, b"pieces") {
-        return PIECES;
-    }
-    UNKNOWN
-}
-
-fn fits_operation(operation: u8, space: &[u8], ends: [usize; 14], count: usize) -> bool {
-    if operation < READS {
-        return fits_capture(operation, space, ends, count);
-    }
-    if operation < WRITES {
-        return fits_read(operation, space, ends, count);
-    }
-    fits_write(operation, space, ends, count)
-}
-
-fn fits_capture(operation: u8, space: &[u8], ends: [usize; 14], count: usize) -> bool {
-    if operation == PARTS {
-        return fits(space, ends, count, b"1+");
-    }
-    if operation == EVENT {
-        return fits(space, ends, count, b"1n*");
-    }
-    if operation == PART {
-        return fits(space, ends, count, b"nn*");
-    }
-    if operation == LAST {
-        return fits(space, ends, count, b"n*");
-    }
-    if operation == PAIRS {
-        return fits(space, ends, count, b"1");
-    }
-    fits(space, ends, count, b"1*")
-}
-
-fn fits_read(operation: u8, space: &[u8], ends: [usize; 14], count: usize) -> bool {
-    if operation == FRAME {
-        return fits(space, ends, count, b"11*");
-    }
-    if operation == READ {
-        return fits(space, ends, count, b"11111*");
-    }
-    if operation == ALL {
-        return fits(space, ends, count, b"11");
-    }
-    if operation == CODES {
-        return fits(space, ends, count, b"111*");
-    }
-    if operation == NUMBER {
-        return fits(space, ends, count, b"1");
-    }
-    if operation == CODE {
-        return fits(space, ends, count, b"2");
-    }
-    if operation == PLAIN {
-        return fits(space, ends, count, b"2");
-    }
-    if operation == ROW {
-        return fits(space, ends, count, b"11");
-    }
-    if operation == LEGAL {
-        return fits(space, ends, count, b"1111");
-    }
-    if operation == CHECK {
-        return fits(space, ends, count, b"1*");
-    }
-    if operation == SIGN {
-        return fits(space, ends, count, b"1**");
-    }
-    fits(space, ends, count, b"1*11")
-}
-
-fn fits_write(operation: u8, space: &[u8], ends: [usize; 14], count: usize) -> bool {
-    if operation == WRITE {
-        return fits(space, ends, count, b"1ln1111121*");
-    }
-    if operation == SEND {
-        return fits(space, ends, count, b"11ln111*");
-    }
-    if operation == RAW {
-        return fits(space, ends, count, b"1ln111*");
-    }
-    if operation == COPY {
-        return fits(space, ends, count, b"1ln*");
-    }
-    if operation == RUN {
-        return fits(space, ends, count, b"1ln*");
-    }
-    if operation == DECIMAL {
-        return fits(space, ends, count, b"lns");
-    }
-    if operation == HEX {
-        return fits(space, ends, count, b"ln1");
-    }
-    if operation == LISTING {
-        return fits(space, ends, count, b"*");
-    }
-    if operation == PIECES {
-        return fits(space, ends, count, b"l*");
-    }
-    false
+    0
 }

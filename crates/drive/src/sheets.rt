@@ -7,6 +7,7 @@ use crate::out::say_counted;
 use crate::words::argument;
 use crate::words::byte;
 use sheet::check::Verdict;
+use sheet::file::FileRead;
 use sheet::line::Line;
 use sheet::lines::SHEET_LIMIT;
 use sheet::write::SheetWritten;
@@ -14,7 +15,7 @@ use tracker::plain::CaptureCell;
 use tracker::sign::Signed;
 
 // An operation on sheet files that writes nothing, and on trackers.
-pub(crate) fn operate(operation: u8, space: &[u8], ends: [usize; 14]) {
+pub(crate) fn operate(operation: usize, space: &[u8], ends: [usize; 14]) {
     let letter = byte(space, ends, 1);
     let bytes = argument(space, ends, 2);
     if operation == names::CHECK {
@@ -35,14 +36,18 @@ fn say_refused(number: u8, place: usize) {
 }
 
 fn check(letter: u8, file: &[u8]) {
-    let read = sheet::file::read_file_by_letter(letter, file);
-    let verdict = read.verdict;
-    let sheet = read.sheet;
-    let lines = sheet.lines;
-    match verdict {
-        Verdict::Accepted => say_lines(lines, sheet.count),
+    match sheet::plain::check_file(letter, file) {
+        Verdict::Accepted => {
+            say_sheet(sheet::file::read_file_by_letter(letter, file));
+        }
         Verdict::Refused(number, place) => say_refused(number, place),
     }
+}
+
+fn say_sheet(read: FileRead) {
+    let sheet = read.sheet;
+    let lines = sheet.lines;
+    say_lines(lines, sheet.count);
 }
 
 fn say_lines(lines: [Line; SHEET_LIMIT], count: usize) {

@@ -89,26 +89,13 @@ fn spaces_in(line: &[u8]) -> usize {
     count
 }
 
-// Whether a word is a name.
-pub(crate) fn is(word: &[u8], name: &[u8]) -> bool {
-    if word.len() != name.len() {
-        return false;
-    }
-    for i in 0..word.len() {
-        if word[i] != name[i] {
-            return false;
-        }
-    }
-    true
-}
-
 // Decodes a word into the space from a place on, and answers the place behind its bytes.
 fn decode(word: &[u8], space: &mut [u8], at: usize) -> usize {
-    if is(word, b"-") {
-        return at;
-    }
     if word.len() == 0 {
         return BAD;
+    }
+    if is_dash(word) {
+        return at;
     }
     if word.len() % 2 == 1 {
         return BAD;
@@ -126,6 +113,13 @@ fn decode(word: &[u8], space: &mut [u8], at: usize) -> usize {
         next += 1;
     }
     next
+}
+
+fn is_dash(word: &[u8]) -> bool {
+    if word.len() != 1 {
+        return false;
+    }
+    word[0] == b'-'
 }
 
 // Two digits as a byte; 256 where one is none.
@@ -202,31 +196,15 @@ fn wide(byte: u8) -> u64 {
 }
 
 // Whether the arguments have the shape of an operation: a letter for each, `1` one byte, `2` two bytes, `n` a number,
-// `s` one below 65,536, `l` a length of at most 4,096, `*` any bytes; `+` one or more of any bytes.
-pub(crate) fn fits(space: &[u8], ends: [usize; 14], count: usize, shape: &[u8]) -> bool {
-    if count > MOST {
-        return false;
-    }
-    if shape.len() > 0 {
-        if shape[shape.len() - 1] == b'+' {
-            return fits_more(space, ends, count, shape);
+// `s` one below 65,536, `l` a length of at most 4,096, `*` any bytes; `+` one or more of any bytes; 0 none.
+pub(crate) fn fits(space: &[u8], ends: [usize; 14], count: usize, shape: [u8; 11]) -> bool {
+    for i in 0..11 {
+        if shape[i] == b'+' {
+            return more_than(count, i);
         }
-    }
-    if count != shape.len() {
-        return false;
-    }
-    fits_each(space, ends, shape)
-}
-
-fn fits_more(space: &[u8], ends: [usize; 14], count: usize, shape: &[u8]) -> bool {
-    if count < shape.len() {
-        return false;
-    }
-    fits_each(space, ends, shape)
-}
-
-fn fits_each(space: &[u8], ends: [usize; 14], shape: &[u8]) -> bool {
-    for i in 0..shape.len() {
+        if shape[i] == 0 {
+            return count == i;
+        }
         if !fits_one(
             argument(space, ends, std::num::wrapping_add_usize(i, 1)),
             shape[i],
@@ -234,7 +212,14 @@ fn fits_each(space: &[u8], ends: [usize; 14], shape: &[u8]) -> bool {
             return false;
         }
     }
-    true
+    count == 11
+}
+
+fn more_than(count: usize, least: usize) -> bool {
+    if count > MOST {
+        return false;
+    }
+    least < count
 }
 
 fn fits_one(bytes: &[u8], letter: u8) -> bool {

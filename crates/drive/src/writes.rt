@@ -18,7 +18,7 @@ use message::write::write_message;
 use row::profile::Profile;
 use sheet::write::SheetWritten;
 
-pub(crate) fn operate(operation: u8, space: &[u8], ends: [usize; 14], room: &mut [u8]) {
+pub(crate) fn operate(operation: usize, space: &[u8], ends: [usize; 14], room: &mut [u8]) {
     let place = length_place(operation);
     let length = (number(space, ends, place) % 4097) as usize;
     if length > room.len() {
@@ -37,7 +37,7 @@ pub(crate) fn operate(operation: u8, space: &[u8], ends: [usize; 14], room: &mut
 }
 
 // Which argument the length is.
-fn length_place(operation: u8) -> usize {
+fn length_place(operation: usize) -> usize {
     if operation == names::DECIMAL {
         return 1;
     }
@@ -50,7 +50,7 @@ fn length_place(operation: u8) -> usize {
     2
 }
 
-fn is_sheet(operation: u8) -> bool {
+fn is_sheet(operation: usize) -> bool {
     if operation == names::COPY {
         return true;
     }
@@ -64,7 +64,7 @@ fn fill(room: &mut [u8]) {
 }
 
 fn write_sheet(
-    operation: u8,
+    operation: usize,
     space: &[u8],
     ends: [usize; 14],
     buf: &mut [u8],
@@ -78,7 +78,13 @@ fn write_sheet(
     sheet::plain::run_of_file(letter, file, buf, spot)
 }
 
-fn write(operation: u8, space: &[u8], ends: [usize; 14], buf: &mut [u8], spot: usize) -> Written {
+fn write(
+    operation: usize,
+    space: &[u8],
+    ends: [usize; 14],
+    buf: &mut [u8],
+    spot: usize,
+) -> Written {
     if operation == names::DECIMAL {
         return text::number::write_decimal(buf, spot, (number(space, ends, 3) % 65536) as u16);
     }
@@ -115,7 +121,7 @@ fn raw(space: &[u8], ends: [usize; 14], buf: &mut [u8], spot: usize) -> Written 
 }
 
 fn profiled(
-    operation: u8,
+    operation: usize,
     profile: Profile,
     space: &[u8],
     ends: [usize; 14],

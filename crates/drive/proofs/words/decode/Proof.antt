@@ -12,14 +12,11 @@ Inv-loop word space₀ at next₀ i₀ i-end space next i = (i ≤ i-end) × (le
 abbrev μ-loop : tie.MeasureT-loop
 μ-loop word space₀ at next₀ i₀ i-end space next i = i-end - i
 
-slice-aggregate-is : tie.Need-slice-aggregate-is Inv-loop μ-loop
-slice-aggregate-is c = search needs
-
-is-requires : tie.Need-is-requires Inv-loop μ-loop
-is-requires c κs = search needs
-
 returns : tie.Need-returns Inv-loop μ-loop
 returns c = search needs
+
+is-dash-requires : tie.Need-is-dash-requires Inv-loop μ-loop
+is-dash-requires c κs = search needs
 
 returns-2 : tie.Need-returns-2 Inv-loop μ-loop
 returns-2 c = search needs
@@ -96,9 +93,8 @@ decode-spec =
     (tie.spec
     Inv-loop
     μ-loop
-    slice-aggregate-is
-    is-requires
     returns
+    is-dash-requires
     returns-2
     returns-3
     loop-holds

@@ -1,14 +1,14 @@
--- `drive::words::is` is safe and ends.
+-- `drive::names::is` is safe and ends.
 use Prim.Native.Nat.{_-_, _≤_}
 use borrow.Author.Needs.{needs}
-use Rattle.drive.proofs.words.is.Statement.{statement}
-use Rattle.drive.proofs.words.is.Tie as tie
+use Rattle.drive.proofs.names.is.Statement.{statement}
+use Rattle.drive.proofs.names.is.Tie as tie
 
 abbrev Inv-loop : tie.InvT-loop
-Inv-loop word name i₀ i-end i = i ≤ i-end
+Inv-loop word name i₀ i = i ≤ 7
 
 abbrev μ-loop : tie.MeasureT-loop
-μ-loop word name i₀ i-end i = i-end - i
+μ-loop word name i₀ i = 7 - i
 
 returns : tie.Need-returns Inv-loop μ-loop
 returns c = search needs
@@ -16,11 +16,11 @@ returns c = search needs
 loop-holds : tie.Need-loop-holds Inv-loop μ-loop
 loop-holds c = search needs
 
-shared-slice-read-if2 : tie.Need-shared-slice-read-if2 Inv-loop μ-loop
-shared-slice-read-if2 c = search needs
+array-read-if2 : tie.Need-array-read-if2 Inv-loop μ-loop
+array-read-if2 c = search needs
 
-shared-slice-read-if2-2 : tie.Need-shared-slice-read-if2-2 Inv-loop μ-loop
-shared-slice-read-if2-2 c = search needs
+letter-requires : tie.Need-letter-requires Inv-loop μ-loop
+letter-requires c κs = search needs
 
 returns-2 : tie.Need-returns-2 Inv-loop μ-loop
 returns-2 c = search needs
@@ -45,8 +45,8 @@ is-spec =
     μ-loop
     returns
     loop-holds
-    shared-slice-read-if2
-    shared-slice-read-if2-2
+    array-read-if2
+    letter-requires
     returns-2
     add-i
     loop-less
