@@ -16,7 +16,7 @@ const LINE: usize = 262144;
 const SPACE: usize = 131072;
 // The longest buffer that an operation writes into.
 const ROOM: usize = 4096;
-// Reads of 65,536 bytes: some 280 thousand million.
+// Reads of 65,536 bytes, more than any input has.
 const READS: u32 = 4294967295;
 
 fn main() {

@@ -50,9 +50,9 @@ valueText (Number z) = integer z
 valueText (Input input on) = decimal input ++ (letters ":" ++ decimal (cond on 1 0))
 
 -- one line: words with a space between them, and a line end
-unfoldable pub row : List ℕ → List (List ℕ) → List ℕ
-row word [] = word ++ letters "\n"
-row word (w ∷ ws) = word ++ (letters " " ++ row w ws)
+unfoldable pub textLine : List ℕ → List (List ℕ) → List ℕ
+textLine word [] = word ++ letters "\n"
+textLine word (w ∷ ws) = word ++ (letters " " ++ textLine w ws)
 
 abbrev pub dash : List ℕ
 dash = letters "-"
@@ -76,19 +76,19 @@ eventText profile dir bytes kind.Broken = without "broken"
 eventText profile dir bytes kind.Noise = without "noise"
 eventText profile dir bytes kind.Pending = without "pending"
 
-abbrev pub eventRow : Profile → Direction → List ℕ → Event → List ℕ
-eventRow profile dir capture e = row (decimal (e .at)) (decimal (e .length) ∷ eventText profile dir (bytesAt capture (e .at) (e .length)) (e .kind))
+abbrev pub eventLine : Profile → Direction → List ℕ → Event → List ℕ
+eventLine profile dir capture e = textLine (decimal (e .at)) (decimal (e .length) ∷ eventText profile dir (bytesAt capture (e .at) (e .length)) (e .kind))
 
-unfoldable pub eventRows : Profile → Direction → List ℕ → List Event → List ℕ
-eventRows profile dir capture [] = []
-eventRows profile dir capture (e ∷ es) = eventRow profile dir capture e ++ eventRows profile dir capture es
+unfoldable pub eventLines : Profile → Direction → List ℕ → List Event → List ℕ
+eventLines profile dir capture [] = []
+eventLines profile dir capture (e ∷ es) = eventLine profile dir capture e ++ eventLines profile dir capture es
 
 abbrev pub heading : List ℕ
 heading = letters "at length event zone code answer value\n"
 
-abbrev pub totalRow : ℕ → Totals → List ℕ
-totalRow n t =
-    row (letters "total") (decimal n
+abbrev pub totalLine : ℕ → Totals → List ℕ
+totalLine n t =
+    textLine (letters "total") (decimal n
     ∷ letters "frame" ∷ decimal (t .frame)
     ∷ letters "broken" ∷ decimal (t .broken)
     ∷ letters "noise" ∷ decimal (t .noise)
@@ -98,11 +98,11 @@ totalRow n t =
 -- header, one line per event, totals
 abbrev pub listing : Profile → Direction → List ℕ → List ℕ
 listing profile dir capture =
-    heading ++ eventRows profile dir capture (eventsFrom dir capture 0) ++ totalRow (length capture) (totalsOf dir capture)
+    heading ++ eventLines profile dir capture (eventsFrom dir capture 0) ++ totalLine (length capture) (totalsOf dir capture)
 
 -- "Refused input prints only refused and the number"
 abbrev pub refusedText : ℕ → List ℕ
-refusedText n = row (letters "refused") (decimal n ∷ [])
+refusedText n = textLine (letters "refused") (decimal n ∷ [])
 
 -- what an input asks for: "Order: 12, then 11, before all others."
 abbrev pub askedBy : profile.Named → direction.Named → ℕ → Asked

@@ -5,5 +5,6 @@ pub mod Sizes
 pub mod Counts
 pub mod Pieces
 pub mod Whole
+pub mod Refusals
 pub mod Rooms
 pub mod OneAnswer

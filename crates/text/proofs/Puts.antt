@@ -6,7 +6,7 @@ use native.Mathlib.Omega.{arith}
 use lib.ListN.{length, take, drop, length-append, take-append-drop}
 use lib.Seq.{length-take-le, take-at, drop-at, drop-drop}
 use Rattle.frame.specs.Raw.{placed}
-use Rattle.listed.specs.Listing.{row}
+use Rattle.listed.specs.Listing.{textLine}
 use Rattle.text.specs.Computed.{Put, behind}
 
 module _ (buf : List ℕ) (at : ℕ) (first second : List ℕ) (within : at ≤ length buf) where
@@ -72,10 +72,10 @@ module _ {m n : ℕ} {buf mid last rest : List ℕ} {at next end : ℕ} where
   both-behind word number tail within p q =
       said (append-assoc word (number ++ tail) rest ∙ ap (λ (xs : List ℕ). word ++ xs) (append-assoc number tail rest)) (both within p q)
 
-pub row-behind : (word : List ℕ) (words : List (List ℕ)) → row word words ≡ word ++ behind words
-unfolding row
-row-behind word [] = refl
-row-behind word (w ∷ ws) = refl
+pub line-behind : (word : List ℕ) (words : List (List ℕ)) → textLine word words ≡ word ++ behind words
+unfolding textLine
+line-behind word [] = refl
+line-behind word (w ∷ ws) = refl
 
 pub nothing : (m : ℕ) (buf : List ℕ) (at : ℕ) → Put m buf at [] buf at
 nothing m buf at =

@@ -8,7 +8,7 @@ use lib.ListN.{length}
 use Rattle.frame.specs.Raw.{placed}
 use Rattle.listed.specs.Letters.{letters}
 use Rattle.listed.specs.Number.{digit, decimal, hexByte}
-use Rattle.listed.specs.Listing.{valueText, row}
+use Rattle.listed.specs.Listing.{valueText, textLine}
 use Rattle.message.specs.declared.read.Said.{Said}
 use Rattle.text.specs.Pieces.{Given}
 use Rattle.text.specs.declared.listing.Place.{Place}
@@ -31,14 +31,14 @@ pub record Put (most : ℕ) (buf : List ℕ) (at : ℕ) (text after : List ℕ) 
 -- what stands behind the first word of a line
 abbrev pub behind : List (List ℕ) → List ℕ
 behind [] = letters "\n"
-behind (w ∷ ws) = letters " " ++ row w ws
+behind (w ∷ ws) = letters " " ++ textLine w ws
 
 -- what stands behind the length of a frame with a message: the answer with a space on either side, and the value
 abbrev pub saidBehind : List ℕ → Said → List ℕ
 saidBehind answer s =
     letters " frame " ++ (decimal (s .zone) ++ ((letters " " ++ hexByte (s .command)) ++ (answer ++ (valueText (s .content) ++ letters "\n"))))
 
--- the first of the rows yet to come
+-- the first of the lines yet to come
 abbrev pub firstText : List Given → List ℕ
 firstText [] = []
 firstText (g ∷ gs) = g .text

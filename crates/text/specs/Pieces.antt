@@ -1,4 +1,4 @@
--- The listing in pieces of bounded size: as many rows as there is room for, and the place where the next piece goes on.
+-- The listing in pieces of bounded size: lines as long as there is room for any line, and the place where the next piece goes on.
 use Prim.Native.Nat.{ℕ, zero, suc, _+_, _-_}
 use mathlib.Core.Bool.{cond}
 use mathlib.Core.List.{List, [], _∷_, _++_}
@@ -16,11 +16,11 @@ use Rattle.text.specs.declared.listing.Place.{Place}
 use Rattle.text.specs.declared.listing.Place.the-variants as place
 use Rattle.text.specs.declared.listing.Piece.{Piece}
 use Rattle.text.specs.declared.listing.Piece.the-variants as piece
-use Rattle.listed.specs.Listing.{heading, eventRow, totalRow, refusedText, asked}
+use Rattle.listed.specs.Listing.{heading, eventLine, totalLine, refusedText, asked}
 
--- room for any row
-abbrev pub rowLimit : ℕ
-rowLimit = 64
+-- room for any line
+abbrev pub lineLimit : ℕ
+lineLimit = 64
 
 -- text that is given out, and the place where the listing goes on behind it
 pub record Given : Type 0 where
@@ -30,51 +30,51 @@ pub record Given : Type 0 where
 abbrev pub given : List ℕ → Place → Given
 given text next = record { text = text; next = next }
 
--- the rows yet to come: an event's row, and then the events behind it; the totals are the last
+-- the lines yet to come: an event's line, and then the events behind it; the totals are the last
 unfoldable pub eventSteps : Profile → Direction → List ℕ → List Event → List Given
-eventSteps profile dir capture [] = given (totalRow (length capture) (totalsOf dir capture)) place.End ∷ []
+eventSteps profile dir capture [] = given (totalLine (length capture) (totalsOf dir capture)) place.End ∷ []
 eventSteps profile dir capture (e ∷ es) =
-    given (eventRow profile dir capture e) (place.Event (e .at + e .length)) ∷ eventSteps profile dir capture es
+    given (eventLine profile dir capture e) (place.Event (e .at + e .length)) ∷ eventSteps profile dir capture es
 
-abbrev pub rowsOf : Profile → Direction → List ℕ → Place → List Given
-rowsOf profile dir capture place.Start = given heading (place.Event 0) ∷ eventSteps profile dir capture (eventsFrom dir capture 0)
-rowsOf profile dir capture (place.Event at) = eventSteps profile dir capture (eventsFrom dir capture at)
-rowsOf profile dir capture place.End = []
+abbrev pub linesFrom : Profile → Direction → List ℕ → Place → List Given
+linesFrom profile dir capture place.Start = given heading (place.Event 0) ∷ eventSteps profile dir capture (eventsFrom dir capture 0)
+linesFrom profile dir capture (place.Event at) = eventSteps profile dir capture (eventsFrom dir capture at)
+linesFrom profile dir capture place.End = []
 
-abbrev pub refusedRows : ℕ → Place → List Given
-refusedRows n place.Start = given (refusedText n) place.End ∷ []
-refusedRows n (place.Event at) = []
-refusedRows n place.End = []
+abbrev pub refusedLines : ℕ → Place → List Given
+refusedLines n place.Start = given (refusedText n) place.End ∷ []
+refusedLines n (place.Event at) = []
+refusedLines n place.End = []
 
-abbrev pub rowsAs : Asked → List ℕ → Place → List Given
-rowsAs (asks.Listing p dir) capture at = rowsOf p dir capture at
-rowsAs (asks.Refused n) capture at = refusedRows n at
+abbrev pub linesAs : Asked → List ℕ → Place → List Given
+linesAs (asks.Listing p dir) capture at = linesFrom p dir capture at
+linesAs (asks.Refused n) capture at = refusedLines n at
 
-abbrev pub rowsIn : List ℕ → Place → List Given
-rowsIn input at = rowsAs (asked input) (drop 2 input) at
+abbrev pub linesIn : List ℕ → Place → List Given
+linesIn input at = linesAs (asked input) (drop 2 input) at
 
--- as many rows as there is room for
+-- lines, as long as there is room for any line
 unfoldable pub filled : ℕ → Place → List Given → Given
 filled room at [] = given [] at
 filled room at (g ∷ gs) =
-    cond (ltb room rowLimit) (given [] at) (given (g .text ++ filled (room - length (g .text)) (g .next) gs .text) (filled (room - length (g .text)) (g .next) gs .next))
+    cond (ltb room lineLimit) (given [] at) (given (g .text ++ filled (room - length (g .text)) (g .next) gs .text) (filled (room - length (g .text)) (g .next) gs .next))
 
 -- the next piece of an input's listing
 abbrev pub pieceOf : List ℕ → Place → ℕ → Given
-pieceOf input at room = filled room at (rowsIn input at)
+pieceOf input at room = filled room at (linesIn input at)
 
 -- 9: "the lent buffer has too few bytes"
-abbrev pub noRow : List ℕ → Line
-noRow buf = line 9 (ltb (length buf) rowLimit)
+abbrev pub noLine : List ℕ → Line
+noLine buf = line 9 (ltb (length buf) lineLimit)
 
 abbrev pub textAs : Given → Piece
 textAs g = piece.Text (length (g .text)) (g .next)
 
 abbrev pub pieceAnswered : List ℕ → Place → List ℕ → Piece
-pieceAnswered input at buf = ruled (noRow buf ∷ []) piece.Refused (textAs (pieceOf input at (length buf)))
+pieceAnswered input at buf = ruled (noLine buf ∷ []) piece.Refused (textAs (pieceOf input at (length buf)))
 
 abbrev pub pieceLeft : List ℕ → Place → List ℕ → List ℕ
-pieceLeft input at buf = ruled (noRow buf ∷ []) (λ n. buf) (placed buf 0 (pieceOf input at (length buf) .text))
+pieceLeft input at buf = ruled (noLine buf ∷ []) (λ n. buf) (placed buf 0 (pieceOf input at (length buf) .text))
 
 -- all that is yet to come
 unfoldable pub texts : List Given → List ℕ

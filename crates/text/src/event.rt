@@ -22,7 +22,7 @@ ghost use Rattle.message.specs.declared.read.FrameReading.the-variants as readi
 ghost use Rattle.message.specs.declared.read.Message.the-variants as message;
 ghost use Rattle.listed.specs.Letters.{letters};
 ghost use Rattle.listed.specs.Number.{decimal, hexByte};
-ghost use Rattle.listed.specs.Listing.{valueText, readText, eventText, eventRow};
+ghost use Rattle.listed.specs.Listing.{valueText, readText, eventText, eventLine};
 ghost use Rattle.text.specs.Computed.{Put, behind, saidBehind};
 
 // Where it is, how long it is, and what it is.
@@ -35,7 +35,7 @@ pub(crate) fn put_event(
     at: usize,
 ) -> usize
     requires { ⌜ (event .at < 2 ^ 16) × (event .length < 2 ^ 16) × (at + 38 ≤ length (now buf)) ⌝ }
-    ensures { λ r. ⌜ Put 38 (now (buf .entry)) at (eventRow profile direction (now (capture .entry)) event) (now (buf .exit)) r ⌝ }
+    ensures { λ r. ⌜ Put 38 (now (buf .entry)) at (eventLine profile direction (now (capture .entry)) event) (now (buf .exit)) r ⌝ }
 {
     let first = put_number(buf, at, event.at as u16);
     let second = put_bytes(buf, first, b" ");

@@ -1,4 +1,5 @@
-// The listing of a capture, given out in pieces: as many whole rows as there is room for, and the place to go on at.
+// The listing of a capture, given out in pieces: whole lines as long as there is room for any line, and the place to go
+// on at.
 use crate::event::put_event;
 use crate::put::put_bytes;
 use crate::put::put_number;
@@ -18,13 +19,13 @@ ghost use lib.ListN.{length};
 ghost use Rattle.frame.specs.Capture.{captureLimit, eventsFrom, totalsOf};
 ghost use Rattle.frame.specs.Raw.{placed};
 ghost use Rattle.listed.specs.Number.{decimal};
-ghost use Rattle.listed.specs.Listing.{totalRow};
-ghost use Rattle.text.specs.Pieces.{rowLimit, eventSteps, rowsOf, refusedRows, filled, textAs, pieceAnswered, pieceLeft};
+ghost use Rattle.listed.specs.Listing.{totalLine};
+ghost use Rattle.text.specs.Pieces.{lineLimit, eventSteps, linesFrom, refusedLines, filled, textAs, pieceAnswered, pieceLeft};
 ghost use Rattle.text.specs.Computed.{Put, firstText, firstNext, isEnd};
 ghost use Rattle.text.specs.declared.listing.Place.the-variants as place;
 
-// Room for any row.
-pub const ROW_LIMIT: usize = 64;
+// Room for any line of a listing.
+pub const LINE_LIMIT: usize = 64;
 
 // Where a listing goes on: at its start, with the events from a place of the capture on, or nowhere.
 pub enum Place {
@@ -39,33 +40,33 @@ pub enum Piece {
     Refused(u8),
 }
 
-// A row that was put: the place behind it in the buffer, and where the listing goes on.
+// A line that was put: the place behind it in the buffer, and where the listing goes on.
 struct Turn {
     at: usize,
     next: Place,
 }
 
-// Gives out the listing of an input from a place on, at the head of the buffer: rows as long as 64 bytes are left
+// Gives out the listing of an input from a place on, at the head of the buffer: lines as long as 64 bytes are left
 // for one. Begin at the start and go on at the place that is answered; a piece of no bytes is the end. 9 for a
 // buffer of less than 64 bytes, and then it is as it was.
 pub fn list_piece(input: &[u8], place: Place, buf: &mut [u8]) -> Piece
     ensures { λ r. ⌜ (r ≡ pieceAnswered (now (input .entry)) place (now (buf .entry))) × (now (buf .exit) ≡ pieceLeft (now (input .entry)) place (now (buf .entry))) ⌝ }
 {
-    if buf.len() < ROW_LIMIT {
+    if buf.len() < LINE_LIMIT {
         return Piece::Refused(9);
     }
     match what_is_asked(input) {
         Asked::Listing(profile, direction) => {
-            list_rows(profile, direction, &input[2..], place, buf)
+            list_lines(profile, direction, &input[2..], place, buf)
         }
         Asked::Refused(number) => list_refusal(number, place, buf),
     }
 }
 
-// Refused input has one row.
+// Refused input has one line.
 fn list_refusal(number: u8, place: Place, buf: &mut [u8]) -> Piece
-    requires { ⌜ rowLimit ≤ length (now buf) ⌝ }
-    ensures { λ r. ⌜ (r ≡ textAs (filled (length (now (buf .entry))) place (refusedRows number place))) × (now (buf .exit) ≡ placed (now (buf .entry)) 0 (filled (length (now (buf .entry))) place (refusedRows number place) .text)) ⌝ }
+    requires { ⌜ lineLimit ≤ length (now buf) ⌝ }
+    ensures { λ r. ⌜ (r ≡ textAs (filled (length (now (buf .entry))) place (refusedLines number place))) × (now (buf .exit) ≡ placed (now (buf .entry)) 0 (filled (length (now (buf .entry))) place (refusedLines number place) .text)) ⌝ }
 {
     match place {
         Place::Start => {
@@ -78,21 +79,21 @@ fn list_refusal(number: u8, place: Place, buf: &mut [u8]) -> Piece
     }
 }
 
-// Row after row.
-fn list_rows(
+// Row after line.
+fn list_lines(
     profile: Profile,
     direction: Direction,
     capture: &[u8],
     place: Place,
     buf: &mut [u8],
 ) -> Piece
-    requires { ⌜ (rowLimit ≤ length (now buf)) × (length (now capture) ≤ captureLimit) ⌝ }
-    ensures { λ r. ⌜ (r ≡ textAs (filled (length (now (buf .entry))) place (rowsOf profile direction (now (capture .entry)) place))) × (now (buf .exit) ≡ placed (now (buf .entry)) 0 (filled (length (now (buf .entry))) place (rowsOf profile direction (now (capture .entry)) place) .text)) ⌝ }
+    requires { ⌜ (lineLimit ≤ length (now buf)) × (length (now capture) ≤ captureLimit) ⌝ }
+    ensures { λ r. ⌜ (r ≡ textAs (filled (length (now (buf .entry))) place (linesFrom profile direction (now (capture .entry)) place))) × (now (buf .exit) ≡ placed (now (buf .entry)) 0 (filled (length (now (buf .entry))) place (linesFrom profile direction (now (capture .entry)) place) .text)) ⌝ }
 {
     let mut at = 0;
     let mut next = place;
     loop {
-        if buf.len() - at < ROW_LIMIT {
+        if buf.len() - at < LINE_LIMIT {
             return Piece::Text(at, next);
         }
         if is_end(next) {
@@ -114,7 +115,7 @@ fn is_end(place: Place) -> bool
     }
 }
 
-// The next row: the heading, an event, or the totals.
+// The next line: the heading, an event, or the totals.
 fn put_next(
     profile: Profile,
     direction: Direction,
@@ -123,8 +124,8 @@ fn put_next(
     buf: &mut [u8],
     at: usize,
 ) -> Turn
-    requires { ⌜ (at + rowLimit ≤ length (now buf)) × (length (now capture) ≤ captureLimit) ⌝ }
-    ensures { λ r. ⌜ (Put rowLimit (now (buf .entry)) at (firstText (rowsOf profile direction (now (capture .entry)) next)) (now (buf .exit)) (r .at)) × (r .next ≡ firstNext next (rowsOf profile direction (now (capture .entry)) next)) ⌝ }
+    requires { ⌜ (at + lineLimit ≤ length (now buf)) × (length (now capture) ≤ captureLimit) ⌝ }
+    ensures { λ r. ⌜ (Put lineLimit (now (buf .entry)) at (firstText (linesFrom profile direction (now (capture .entry)) next)) (now (buf .exit)) (r .at)) × (r .next ≡ firstNext next (linesFrom profile direction (now (capture .entry)) next)) ⌝ }
 {
     match next {
         Place::Start => {
@@ -151,8 +152,8 @@ fn put_from(
     buf: &mut [u8],
     at: usize,
 ) -> Turn
-    requires { ⌜ (at + rowLimit ≤ length (now buf)) × (length (now capture) ≤ captureLimit) ⌝ }
-    ensures { λ r. ⌜ (Put rowLimit (now (buf .entry)) at (firstText (eventSteps profile direction (now (capture .entry)) (eventsFrom direction (now (capture .entry)) from))) (now (buf .exit)) (r .at)) × (r .next ≡ firstNext (place.Event from) (eventSteps profile direction (now (capture .entry)) (eventsFrom direction (now (capture .entry)) from))) ⌝ }
+    requires { ⌜ (at + lineLimit ≤ length (now buf)) × (length (now capture) ≤ captureLimit) ⌝ }
+    ensures { λ r. ⌜ (Put lineLimit (now (buf .entry)) at (firstText (eventSteps profile direction (now (capture .entry)) (eventsFrom direction (now (capture .entry)) from))) (now (buf .exit)) (r .at)) × (r .next ≡ firstNext (place.Event from) (eventSteps profile direction (now (capture .entry)) (eventsFrom direction (now (capture .entry)) from))) ⌝ }
 {
     let found = next_event(direction, capture, from);
     let Next::Event(event) = found else {
@@ -170,19 +171,19 @@ fn put_from(
 }
 
 fn put_totals(direction: Direction, capture: &[u8], buf: &mut [u8], at: usize) -> usize
-    requires { ⌜ (at + rowLimit ≤ length (now buf)) × (length (now capture) ≤ captureLimit) ⌝ }
-    ensures { λ r. ⌜ Put rowLimit (now (buf .entry)) at (totalRow (length (now (capture .entry))) (totalsOf direction (now (capture .entry)))) (now (buf .exit)) r ⌝ }
+    requires { ⌜ (at + lineLimit ≤ length (now buf)) × (length (now capture) ≤ captureLimit) ⌝ }
+    ensures { λ r. ⌜ Put lineLimit (now (buf .entry)) at (totalLine (length (now (capture .entry))) (totalsOf direction (now (capture .entry)))) (now (buf .exit)) r ⌝ }
 {
     let counted = capture_totals(direction, capture);
     let Counted::Totals(totals) = counted else {
         return at;
     };
-    put_total_row(capture.len(), totals, buf, at)
+    put_total_line(capture.len(), totals, buf, at)
 }
 
-fn put_total_row(count: usize, totals: Totals, buf: &mut [u8], at: usize) -> usize
+fn put_total_line(count: usize, totals: Totals, buf: &mut [u8], at: usize) -> usize
     requires { ⌜ (at + 63 ≤ length (now buf)) × (count < 2 ^ 16) × (totals .frame < 2 ^ 16) × (totals .broken < 2 ^ 16) × (totals .noise < 2 ^ 16) × (totals .pending < 2 ^ 16) ⌝ }
-    ensures { λ r. ⌜ Put 63 (now (buf .entry)) at (totalRow count totals) (now (buf .exit)) r ⌝ }
+    ensures { λ r. ⌜ Put 63 (now (buf .entry)) at (totalLine count totals) (now (buf .exit)) r ⌝ }
 {
     let first = put_counted(b"total ", count, buf, at);
     let second = put_counted(b" frame ", totals.frame, buf, first);

@@ -1,10 +1,10 @@
--- `listing::list` is safe and ends: each piece leaves fewer rows.
+-- `listing::list` is safe and ends: each piece leaves fewer lines.
 use mathlib.Core.Path.{_≡_, refl, sym, _∙_}
 use Prim.Native.Nat.{_≤_, _<_}
 use native.Mathlib.Omega.{arith}
 use lib.ListN.{length}
 use borrow.Author.Needs.{needs}
-use Rattle.text.specs.Pieces.{rowLimit, rowsIn}
+use Rattle.text.specs.Pieces.{lineLimit, linesIn}
 use Rattle.text.proofs.Whole.{answered-fewer}
 use Rattle.listing.proofs.list.Statement.{statement}
 use Rattle.listing.proofs.list.Tie as tie
@@ -13,7 +13,7 @@ abbrev Inv-loop : tie.InvT-loop
 Inv-loop input piece₀ place₀ piece place = length piece ≡ 65536
 
 abbrev μ-loop : tie.MeasureT-loop
-μ-loop input piece₀ place₀ piece place = length (rowsIn input place)
+μ-loop input piece₀ place₀ piece place = length (linesIn input place)
 
 large-buffer-requires : tie.Need-large-buffer-requires Inv-loop μ-loop
 large-buffer-requires c κs = search needs

@@ -1,7 +1,7 @@
 -- `text::event::put_denied` meets its contract.
 use mathlib.Core.List.{_++_}
 use Rattle.listed.specs.Letters.{letters}
-use Rattle.listed.specs.Listing.{row}
+use Rattle.listed.specs.Listing.{textLine}
 use Rattle.listed.specs.Number.{decimal, hexByte}
 use Rattle.text.proofs.Puts.{both, both-behind}
 use borrow.Author.Needs.{needs}
@@ -33,7 +33,7 @@ same-length : tie.Need-same-length
 same-length c = search needs
 
 returns : tie.Need-returns
-unfolding letters row
+unfolding letters textLine
 returns c =
     let denial = c .before .before .before .before .before .before .before .before .before .before .before .before .before .before .before .before .before .before .before .before .args .denial in
     both-behind (letters " denied ") (decimal (denial .zone)) (letters " " ++ hexByte (denial .command)) (search needs) (c .before .before .before .before .before .before .before .before .before .before .before .before .before .before .before .before .put-named .ensures)

@@ -3,8 +3,8 @@ use mathlib.Core.Path.{sym}
 use Rattle.frame.specs.Fields.{bytesAt}
 use Rattle.listed.specs.Letters.{letters}
 use Rattle.listed.specs.Number.{decimal}
-use Rattle.listed.specs.Listing.{row, eventText}
-use Rattle.text.proofs.Puts.{both, said, row-behind}
+use Rattle.listed.specs.Listing.{textLine, eventText}
+use Rattle.text.proofs.Puts.{both, said, line-behind}
 use borrow.Author.Needs.{needs}
 use Rattle.text.proofs.event.put_event.Statement.{statement}
 use Rattle.text.proofs.event.put_event.Tie as tie
@@ -37,13 +37,13 @@ same-length : tie.Need-same-length
 same-length c = search needs
 
 returns : tie.Need-returns
-unfolding letters row
+unfolding letters textLine
 returns c =
     let g = c .before .before .before .before .before .before .before .before .before .before .before .before .before .before .before .before .before .before .before .before .before .before .args in
     let words = eventText (g .profile) (g .direction) (bytesAt (g .capture .now) (g .event .at) (g .event .length)) (g .event .kind) in
     both (search needs) (c .before .before .before .before .before .before .before .before .before .before .before .before .before .before .before .before .before .put-number .ensures)
     (both (search needs) (c .before .before .before .before .before .before .before .before .before .before .before .before .put-bytes .ensures)
-    (said (sym (row-behind (decimal (g .event .length)) words)) (both (search needs) (c .before .before .before .before .before .before .before .put-number2 .ensures) (rw (c .before .before .before .before .bytes-at .ensures) at (c .before .before .put-kind .ensures)))))
+    (said (sym (line-behind (decimal (g .event .length)) words)) (both (search needs) (c .before .before .before .before .before .before .before .put-number2 .ensures) (rw (c .before .before .before .before .bytes-at .ensures) at (c .before .before .put-kind .ensures)))))
 
 pub put-event-spec : {M : Type 1} → statement M
 put-event-spec =

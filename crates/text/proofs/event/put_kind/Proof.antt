@@ -1,7 +1,7 @@
 -- `text::event::put_kind` meets its contract.
 use native.Mathlib.Omega.{arith}
 use Rattle.listed.specs.Letters.{letters}
-use Rattle.listed.specs.Listing.{row}
+use Rattle.listed.specs.Listing.{textLine}
 use Rattle.text.proofs.Puts.{wider}
 use borrow.Author.Needs.{needs}
 use Rattle.text.proofs.event.put_kind.Statement.{statement}
@@ -53,21 +53,21 @@ same-length-2 : tie.Need-same-length-2
 same-length-2 c = search needs
 
 returns-2 : tie.Need-returns-2
-unfolding letters row
+unfolding letters textLine
 returns-2 c = rw (c .before .before .before .before .before .enum-told2 .given .1) (wider (omega arith) (c .before .before .put-bytes .ensures))
 
 same-length-3 : tie.Need-same-length-3
 same-length-3 c = search needs
 
 returns-3 : tie.Need-returns-3
-unfolding letters row
+unfolding letters textLine
 returns-3 c = rw (c .before .before .before .before .before .enum-told3 .given .1) (wider (omega arith) (c .before .before .put-bytes2 .ensures))
 
 same-length-4 : tie.Need-same-length-4
 same-length-4 c = search needs
 
 returns-4 : tie.Need-returns-4
-unfolding letters row
+unfolding letters textLine
 returns-4 c = rw (c .before .before .before .before .before .enum-told4 .given .1) (wider (omega arith) (c .before .before .put-bytes3 .ensures))
 
 pub put-kind-spec : {M : Type 1} → statement M

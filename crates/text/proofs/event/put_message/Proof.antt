@@ -1,7 +1,7 @@
 -- `text::event::put_message` meets its contract.
 use native.Mathlib.Omega.{arith}
 use Rattle.listed.specs.Letters.{letters}
-use Rattle.listed.specs.Listing.{row}
+use Rattle.listed.specs.Listing.{textLine}
 use Rattle.text.proofs.Puts.{wider}
 use borrow.Author.Needs.{needs}
 use Rattle.text.proofs.event.put_message.Statement.{statement}
@@ -35,14 +35,14 @@ same-length : tie.Need-same-length
 same-length c = search needs
 
 returns : tie.Need-returns
-unfolding letters row
+unfolding letters textLine
 returns c = rw (c .before .before .before .before .before .before .message .given .1) (c .before .before .put-said .ensures)
 
 same-length-2 : tie.Need-same-length-2
 same-length-2 c = search needs
 
 returns-2 : tie.Need-returns-2
-unfolding letters row
+unfolding letters textLine
 returns-2 c = rw (c .before .before .before .before .before .before .message2 .given .1) (c .before .before .put-said2 .ensures)
 
 same-length-3 : tie.Need-same-length-3

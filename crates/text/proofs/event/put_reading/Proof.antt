@@ -1,7 +1,7 @@
 -- `text::event::put_reading` meets its contract.
 use native.Mathlib.Omega.{arith}
 use Rattle.listed.specs.Letters.{letters}
-use Rattle.listed.specs.Listing.{row}
+use Rattle.listed.specs.Listing.{textLine}
 use Rattle.text.proofs.Puts.{wider}
 use borrow.Author.Needs.{needs}
 use Rattle.text.proofs.event.put_reading.Statement.{statement}
@@ -44,7 +44,7 @@ same-length-3 : tie.Need-same-length-3
 same-length-3 c = search needs
 
 returns-3 : tie.Need-returns-3
-unfolding letters row
+unfolding letters textLine
 returns-3 c = rw (c .before .before .before .before .before .enum-told .given .1) (wider (omega arith) (c .before .before .put-bytes .ensures))
 
 pub put-reading-spec : {M : Type 1} → statement M

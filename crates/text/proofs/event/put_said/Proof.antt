@@ -1,6 +1,5 @@
 -- `text::event::put_said` meets its contract.
 use mathlib.Core.List.{_++_}
-use native.Mathlib.Omega.{arith}
 use Rattle.listed.specs.Letters.{letters}
 use Rattle.listed.specs.Number.{decimal, hexByte}
 use Rattle.text.proofs.Puts.{both, both-behind, wider}

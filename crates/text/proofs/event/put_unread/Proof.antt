@@ -1,6 +1,6 @@
 -- `text::event::put_unread` meets its contract.
 use Rattle.listed.specs.Letters.{letters}
-use Rattle.listed.specs.Listing.{row}
+use Rattle.listed.specs.Listing.{textLine}
 use Rattle.text.proofs.Puts.{both}
 use borrow.Author.Needs.{needs}
 use Rattle.text.proofs.event.put_unread.Statement.{statement}
@@ -25,7 +25,7 @@ same-length : tie.Need-same-length
 same-length c = search needs
 
 returns : tie.Need-returns
-unfolding letters row
+unfolding letters textLine
 returns c = both (search needs) (c .before .before .before .before .before .before .before .before .before .before .before .put-bytes .ensures) (both (search needs) (c .before .before .before .before .before .before .before .put-number .ensures) (c .before .before .put-bytes2 .ensures))
 
 pub put-unread-spec : {M : Type 1} → statement M

@@ -23,21 +23,21 @@ what-is-asked-requires c κs = search needs
 enum-known-profile : tie.Need-enum-known-profile
 enum-known-profile c = search needs
 
-sub-list-rows : tie.Need-sub-list-rows
-sub-list-rows c =
+sub-list-lines : tie.Need-sub-list-lines
+sub-list-lines c =
     let two = asked-small (c .before .before .before .before .before .before .before .args .input .now) (c .before .profile .given .0 .0) (c .before .profile .given .0 .1 .0) (sym (c .before .before .before .what-is-asked .ensures) ∙ c .before .profile .given .1) .0 in
     omega arith
 
-part-list-rows-start : tie.Need-part-list-rows-start
-part-list-rows-start c =
+part-list-lines-start : tie.Need-part-list-lines-start
+part-list-lines-start c =
     let two = asked-small (c .before .before .before .before .before .before .before .args .input .now) (c .before .profile .given .0 .0) (c .before .profile .given .0 .1 .0) (sym (c .before .before .before .what-is-asked .ensures) ∙ c .before .profile .given .1) .0 in
     omega arith
 
-part-list-rows-end : tie.Need-part-list-rows-end
-part-list-rows-end c = search needs
+part-list-lines-end : tie.Need-part-list-lines-end
+part-list-lines-end c = search needs
 
-list-rows-requires : tie.Need-list-rows-requires
-list-rows-requires c κs =
+list-lines-requires : tie.Need-list-lines-requires
+list-lines-requires c κs =
     let small = asked-small (c .before .before .before .before .before .before .before .before .before .args .input .now) (c .before .before .before .profile .given .0 .0) (c .before .before .before .profile .given .0 .1 .0) (sym (c .before .before .before .before .before .what-is-asked .ensures) ∙ c .before .before .before .profile .given .1) in
     (search needs, rw (rest (c .before .before .before .before .before .before .before .before .before .args .input .now)) (simp length-drop (omega (arith, small .1))))
 
@@ -53,7 +53,7 @@ same-length c = search needs
 returns-2 : tie.Need-returns-2
 returns-2 c =
     let g = c .before .before .before .before .before .before .before .before .before .before .before .before .args in
-    rw (le-ltb _ _ (c .before .before .before .before .before .before .before .before .before .if1 .left), ← c .before .before .before .before .before .before .before .before .what-is-asked .ensures, c .before .before .before .before .before .before .profile .given .1) (rw (rest (g .input .now)) at (c .before .before .list-rows .ensures))
+    rw (le-ltb _ _ (c .before .before .before .before .before .before .before .before .before .if1 .left), ← c .before .before .before .before .before .before .before .before .what-is-asked .ensures, c .before .before .before .before .before .before .profile .given .1) (rw (rest (g .input .now)) at (c .before .before .list-lines .ensures))
 
 same-length-2 : tie.Need-same-length-2
 same-length-2 c = search needs
@@ -68,10 +68,10 @@ list-piece-spec =
     returns
     what-is-asked-requires
     enum-known-profile
-    sub-list-rows
-    part-list-rows-start
-    part-list-rows-end
-    list-rows-requires
+    sub-list-lines
+    part-list-lines-start
+    part-list-lines-end
+    list-lines-requires
     enum-known-number
     list-refusal-requires
     same-length

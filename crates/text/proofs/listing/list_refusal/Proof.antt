@@ -1,12 +1,12 @@
 -- `text::listing::list_refusal` meets its contract.
 use mathlib.Core.Path.{refl}
 use Rattle.listed.specs.Letters.{letters}
-use Rattle.listed.specs.Listing.{row}
+use Rattle.listed.specs.Listing.{textLine}
 use Rattle.listed.specs.Listing.{refusedText}
 use Rattle.text.specs.Pieces.{filled}
 use Rattle.text.specs.declared.listing.Place.the-variants as place
 use Rattle.text.proofs.Puts.{both}
-use Rattle.text.proofs.Pieces.{one-row}
+use Rattle.text.proofs.Pieces.{one-line}
 use borrow.Author.Needs.{needs}
 use Rattle.text.proofs.listing.list_refusal.Statement.{statement}
 use Rattle.text.proofs.listing.list_refusal.Tie as tie
@@ -36,11 +36,11 @@ same-length : tie.Need-same-length
 same-length c = search needs
 
 returns : tie.Need-returns
-unfolding letters row
+unfolding letters textLine
 returns c =
     let g = c .before .before .before .before .before .before .before .before .before .before .before .before .before .args in
     rw (c .before .before .before .before .before .before .before .before .before .before .enum-told .given .1)
-    (one-row 14 (g .buf .now) (c .before .before .put-bytes .last .0) (refusedText (g .number)) (c .before .before .put-bytes .result) place.Start (search needs)
+    (one-line 14 (g .buf .now) (c .before .before .put-bytes .last .0) (refusedText (g .number)) (c .before .before .put-bytes .result) place.Start (search needs)
     (both (search needs) (c .before .before .before .before .before .before .before .put-counted .ensures) (c .before .before .put-bytes .ensures)))
 
 returns-2 : tie.Need-returns-2

@@ -3,7 +3,7 @@ use mathlib.Core.Path.{sym, ap, _∙_}
 use native.Mathlib.Omega.{arith}
 use Rattle.frame.specs.declared.capture.Totals.{Totals}
 use lib.ListN.{length}
-use Rattle.listed.specs.Listing.{totalRow}
+use Rattle.listed.specs.Listing.{totalLine}
 use Rattle.text.proofs.Counts.{counts-these, none-refused, totals-small}
 use Rattle.text.proofs.Puts.{wider, said}
 use borrow.Author.Needs.{needs}
@@ -24,8 +24,8 @@ returns c =
     let g = c .before .before .before .before .before .args in
     absurd (none-refused (g .direction) (g .capture .now) (search needs) (c .enum-told .given .0 .0) (sym (c .enum-told .given .1) ∙ c .before .before .capture-totals .ensures))
 
-put-total-row-requires : tie.Need-put-total-row-requires
-put-total-row-requires c κs =
+put-total-line-requires : tie.Need-put-total-line-requires
+put-total-line-requires c κs =
     let g = c .before .before .before .before .before .before .before .args in
     let told = c .before .before .counted .given in
     let these = counts-these (g .direction) (g .capture .now) (search needs) (told .0 .0) (sym (told .1) ∙ c .before .before .before .before .capture-totals .ensures) in
@@ -40,7 +40,7 @@ returns-2 c =
     let g = c .before .before .before .before .before .before .before .before .before .before .args in
     let told = c .before .before .before .before .before .counted .given in
     let these = counts-these (g .direction) (g .capture .now) (search needs) (told .0 .0) (sym (told .1) ∙ c .before .before .before .before .before .before .before .capture-totals .ensures) in
-    said (ap (λ (t : Totals). totalRow (length (g .capture .now)) t) these) (wider (omega arith) (c .before .before .put-total-row .ensures))
+    said (ap (λ (t : Totals). totalLine (length (g .capture .now)) t) these) (wider (omega arith) (c .before .before .put-total-line .ensures))
 
 pub put-totals-spec : {M : Type 1} → statement M
 put-totals-spec =
@@ -50,6 +50,6 @@ put-totals-spec =
     enum-known-counted
     enum-told
     returns
-    put-total-row-requires
+    put-total-line-requires
     same-length
     returns-2)

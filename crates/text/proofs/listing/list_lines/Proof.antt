@@ -1,19 +1,19 @@
--- `text::listing::list_rows` meets its contract.
+-- `text::listing::list_lines` meets its contract.
 use mathlib.Core.Path.{sym, _∙_}
 use Prim.Native.Nat.{_-_, _≤_, _<_}
 use native.Mathlib.Omega.{arith}
 use borrow.Author.Needs.{needs}
 use lib.ListN.{length}
-use Rattle.text.specs.Pieces.{rowLimit, rowsOf}
+use Rattle.text.specs.Pieces.{lineLimit, linesFrom}
 use Rattle.text.proofs.Pieces.{filled-full, filled-end, fewer, Filling, begun, ended, more}
-use Rattle.text.proofs.listing.list_rows.Statement.{statement}
-use Rattle.text.proofs.listing.list_rows.Tie as tie
+use Rattle.text.proofs.listing.list_lines.Statement.{statement}
+use Rattle.text.proofs.listing.list_lines.Tie as tie
 
 abbrev Inv-loop : tie.InvT-loop
 Inv-loop profile direction capture buf₀ at₀ next₀ buf at next = Filling profile direction capture buf₀ next₀ buf at next
 
 abbrev μ-loop : tie.MeasureT-loop
-μ-loop profile direction capture buf₀ at₀ next₀ buf at next = length (rowsOf profile direction capture next)
+μ-loop profile direction capture buf₀ at₀ next₀ buf at next = length (linesFrom profile direction capture next)
 
 loop-holds : tie.Need-loop-holds Inv-loop μ-loop
 loop-holds c =
@@ -32,9 +32,9 @@ returns : tie.Need-returns Inv-loop μ-loop
 returns c =
     let g = c .before .before .before .before .args in
     let l = c .before .loop in
-    let full : length (g .buf .now) - l .at < rowLimit = omega (arith, c .if1 .taken, l .inv .long) in
+    let full : length (g .buf .now) - l .at < lineLimit = omega (arith, c .if1 .taken, l .inv .long) in
     ended (g .profile) (g .direction) (g .capture .now) (g .buf .now) (g .place) (l .buf) (l .at) (l .next) (l .inv)
-    (filled-full (length (g .buf .now) - l .at) (l .next) (rowsOf (g .profile) (g .direction) (g .capture .now) (l .next)) full)
+    (filled-full (length (g .buf .now) - l .at) (l .next) (linesFrom (g .profile) (g .direction) (g .capture .now) (l .next)) full)
 
 is-end-requires : tie.Need-is-end-requires Inv-loop μ-loop
 is-end-requires c κs = search needs
@@ -66,12 +66,12 @@ loop-again c =
     let g = c .before .before .before .before .before .before .before .before .before .before .args in
     let l = c .before .before .before .before .before .before .before .loop in
     let going = sym (c .before .before .before .before .before .is-end .ensures) ∙ c .before .before .before .before .if2 .left in
-    let room : rowLimit ≤ length (l .buf) - l .at = search needs in
+    let room : lineLimit ≤ length (l .buf) - l .at = search needs in
     more (g .profile) (g .direction) (g .capture .now) (g .buf .now) (g .place) (l .buf) (c .before .before .put-next .last .1 .1 .1 .1 .0) (l .at) (c .before .before .put-next .result .at) (l .next) (c .before .before .put-next .result .next) (l .inv) room going
     (c .before .before .put-next .ensures .0) (c .before .before .put-next .ensures .1) (c .before .before .put-next .kept .1 .1 .1 .1 .0)
 
-pub list-rows-spec : {M : Type 1} → statement M
-list-rows-spec =
+pub list-lines-spec : {M : Type 1} → statement M
+list-lines-spec =
     tie.close
     (tie.spec
     Inv-loop

@@ -1,11 +1,11 @@
--- `text::listing::put_total_row` meets its contract.
+-- `text::listing::put_total_line` meets its contract.
 use native.Mathlib.Omega.{arith}
 use Rattle.listed.specs.Letters.{letters}
-use Rattle.listed.specs.Listing.{row}
+use Rattle.listed.specs.Listing.{textLine}
 use Rattle.text.proofs.Puts.{both}
 use borrow.Author.Needs.{needs}
-use Rattle.text.proofs.listing.put_total_row.Statement.{statement}
-use Rattle.text.proofs.listing.put_total_row.Tie as tie
+use Rattle.text.proofs.listing.put_total_line.Statement.{statement}
+use Rattle.text.proofs.listing.put_total_line.Tie as tie
 
 slice-aggregate-put-counted : tie.Need-slice-aggregate-put-counted
 slice-aggregate-put-counted c = search needs
@@ -47,7 +47,7 @@ same-length : tie.Need-same-length
 same-length c = search needs
 
 returns : tie.Need-returns
-unfolding letters row
+unfolding letters textLine
 returns c =
     let room = c .before .before .before .before .before .before .before .before .before .before .before .before .before .before .before .before .before .before .before .before .before .before .before .before .before .before .before .before .before .before .before .pre .0 in
     both (omega arith) (c .before .before .before .before .before .before .before .before .before .before .before .before .before .before .before .before .before .before .before .before .before .before .before .before .before .before .before .put-counted .ensures)
@@ -55,8 +55,8 @@ returns c =
     (both (search needs) (c .before .before .before .before .before .before .before .before .before .before .before .before .before .before .before .before .before .put-counted3 .ensures)
     (both (search needs) (c .before .before .before .before .before .before .before .before .before .before .before .before .put-counted4 .ensures) (both (search needs) (c .before .before .before .before .before .before .before .put-counted5 .ensures) (c .before .before .put-bytes .ensures)))))
 
-pub put-total-row-spec : {M : Type 1} → statement M
-put-total-row-spec =
+pub put-total-line-spec : {M : Type 1} → statement M
+put-total-line-spec =
     tie.close
     (tie.spec
     slice-aggregate-put-counted
