@@ -33,6 +33,10 @@ abbrev pub behind : List (List ℕ) → List ℕ
 behind [] = letters "\n"
 behind (w ∷ ws) = letters " " ++ textLine w ws
 
+-- the answer to a command's frame is a dash, and that of a status 00
+abbrev pub answerText : Bool → List ℕ
+answerText answered = cond answered (letters " 00 ") (letters " - ")
+
 -- what stands behind the length of a frame with a message: the answer with a space on either side, and the value
 abbrev pub saidBehind : List ℕ → Said → List ℕ
 saidBehind answer s =

@@ -23,7 +23,7 @@ ghost use Rattle.message.specs.declared.read.Message.the-variants as message;
 ghost use Rattle.listed.specs.Letters.{letters};
 ghost use Rattle.listed.specs.Number.{decimal, hexByte};
 ghost use Rattle.listed.specs.Listing.{valueText, readText, eventText, eventLine};
-ghost use Rattle.text.specs.Computed.{Put, behind, saidBehind};
+ghost use Rattle.text.specs.Computed.{Put, behind, answerText, saidBehind};
 
 // Where it is, how long it is, and what it is.
 pub(crate) fn put_event(
@@ -97,20 +97,31 @@ fn put_message(message: Message, buf: &mut [u8], at: usize) -> usize
     ensures { λ r. ⌜ Put 27 (now (buf .entry)) at (behind (readText (reading.Message message))) (now (buf .exit)) r ⌝ }
 {
     match message {
-        Message::Command(said) => put_said(said, b" - ", buf, at),
-        Message::Status(said) => put_said(said, b" 00 ", buf, at),
+        Message::Command(said) => put_said(said, false, buf, at),
+        Message::Status(said) => put_said(said, true, buf, at),
         Message::Denied(denial) => put_denied(denial, buf, at),
     }
 }
 
-fn put_said(said: Said, answer: &[u8], buf: &mut [u8], at: usize) -> usize
-    requires { ⌜ (length (now answer) ≤ 4) × (at + 27 ≤ length (now buf)) ⌝ }
-    ensures { λ r. ⌜ Put 27 (now (buf .entry)) at (saidBehind (now (answer .entry)) said) (now (buf .exit)) r ⌝ }
+fn put_said(said: Said, answered: bool, buf: &mut [u8], at: usize) -> usize
+    requires { ⌜ at + 27 ≤ length (now buf) ⌝ }
+    ensures { λ r. ⌜ Put 27 (now (buf .entry)) at (saidBehind (answerText answered) said) (now (buf .exit)) r ⌝ }
 {
     let next = put_named(b" frame ", said.zone, said.command, buf, at);
-    let value = put_bytes(buf, next, answer);
+    let value = put_answer(answered, buf, next);
     let content = said.content;
     put_last(content, buf, value)
+}
+
+// The answer with a space on either side. Each text is put as it stands: one that is passed on is copied byte by byte.
+fn put_answer(answered: bool, buf: &mut [u8], at: usize) -> usize
+    requires { ⌜ at + 4 ≤ length (now buf) ⌝ }
+    ensures { λ r. ⌜ Put 4 (now (buf .entry)) at (answerText answered) (now (buf .exit)) r ⌝ }
+{
+    if answered {
+        return put_bytes(buf, at, b" 00 ");
+    }
+    put_bytes(buf, at, b" - ")
 }
 
 fn put_denied(denial: Denial, buf: &mut [u8], at: usize) -> usize

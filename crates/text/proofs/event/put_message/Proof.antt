@@ -10,17 +10,11 @@ use Rattle.text.proofs.event.put_message.Tie as tie
 enum-known-message : tie.Need-enum-known-message
 enum-known-message c = search needs
 
-slice-aggregate-put-said : tie.Need-slice-aggregate-put-said
-slice-aggregate-put-said c = search needs
-
 put-said-requires : tie.Need-put-said-requires
 put-said-requires c κs = search needs
 
 enum-known-message-2 : tie.Need-enum-known-message-2
 enum-known-message-2 c = search needs
-
-slice-aggregate-put-said-2 : tie.Need-slice-aggregate-put-said-2
-slice-aggregate-put-said-2 c = search needs
 
 put-said-requires-2 : tie.Need-put-said-requires-2
 put-said-requires-2 c κs = search needs
@@ -36,14 +30,14 @@ same-length c = search needs
 
 returns : tie.Need-returns
 unfolding letters textLine
-returns c = rw (c .before .before .before .before .before .before .message .given .1) (c .before .before .put-said .ensures)
+returns c = rw (c .before .before .before .before .before .message .given .1) (c .before .before .put-said .ensures)
 
 same-length-2 : tie.Need-same-length-2
 same-length-2 c = search needs
 
 returns-2 : tie.Need-returns-2
 unfolding letters textLine
-returns-2 c = rw (c .before .before .before .before .before .before .message2 .given .1) (c .before .before .put-said2 .ensures)
+returns-2 c = rw (c .before .before .before .before .before .message2 .given .1) (c .before .before .put-said2 .ensures)
 
 same-length-3 : tie.Need-same-length-3
 same-length-3 c = search needs
@@ -56,10 +50,8 @@ put-message-spec =
     tie.close
     (tie.spec
     enum-known-message
-    slice-aggregate-put-said
     put-said-requires
     enum-known-message-2
-    slice-aggregate-put-said-2
     put-said-requires-2
     enum-known-message-3
     put-denied-requires

@@ -13,8 +13,8 @@ slice-aggregate-put-named c = search needs
 put-named-requires : tie.Need-put-named-requires
 put-named-requires c κs = search needs
 
-put-bytes-requires : tie.Need-put-bytes-requires
-put-bytes-requires c κs = search needs
+put-answer-requires : tie.Need-put-answer-requires
+put-answer-requires c κs = search needs
 
 put-last-requires : tie.Need-put-last-requires
 put-last-requires c κs = search needs
@@ -25,10 +25,10 @@ same-length c = search needs
 returns : tie.Need-returns
 unfolding letters
 returns c =
-    let said = c .before .before .before .before .before .before .before .before .before .before .before .before .before .before .before .args .said in
+    let said = c .before .before .before .before .before .before .before .before .before .before .before .before .before .before .args .said in
     wider (search needs)
     (both-behind (letters " frame ") (decimal (said .zone)) (letters " " ++ hexByte (said .command)) (search needs) (c .before .before .before .before .before .before .before .before .before .before .put-named .ensures)
-    (both (search needs) (c .before .before .before .before .before .before .put-bytes .ensures) (c .before .before .put-last .ensures)))
+    (both (search needs) (c .before .before .before .before .before .before .put-answer .ensures) (c .before .before .put-last .ensures)))
 
 pub put-said-spec : {M : Type 1} → statement M
 put-said-spec =
@@ -36,7 +36,7 @@ put-said-spec =
     (tie.spec
     slice-aggregate-put-named
     put-named-requires
-    put-bytes-requires
+    put-answer-requires
     put-last-requires
     same-length
     returns)
