@@ -9,6 +9,7 @@ use crate::spaces;
 use crate::words::argument;
 use crate::words::byte;
 use crate::words::number;
+use bytes::fields::Brought;
 use frame::capture::Counted;
 use frame::capture::Event;
 use frame::capture::Kind;
@@ -16,7 +17,6 @@ use frame::capture::Next;
 use frame::capture::next_event;
 use frame::direction::Direction;
 use frame::direction::Named;
-use frame::fields::Brought;
 use frame::reader::ByteAnswer;
 use frame::reader::Reader;
 
@@ -26,13 +26,13 @@ pub(crate) fn operate(operation: usize, space: &[u8], ends: [usize; 14], count: 
         let place = number(space, ends, 1) as usize;
         let length = number(space, ends, 2) as usize;
         let bytes = argument(space, ends, 3);
-        say_bytes(frame::fields::bytes_at(bytes, place, length));
+        say_bytes(bytes::fields::bytes_at(bytes, place, length));
         return;
     }
     if operation == names::LAST {
         let length = number(space, ends, 1) as usize;
         let bytes = argument(space, ends, 2);
-        say_bytes(frame::fields::last_bytes(bytes, length));
+        say_bytes(bytes::fields::last_bytes(bytes, length));
         return;
     }
     match frame::direction::direction_of(byte(space, ends, 1)) {
@@ -183,7 +183,7 @@ fn totals(letter: u8, capture: &[u8]) {
 }
 
 fn fields(direction: Direction, bytes: &[u8]) {
-    match frame::fields::frame_fields(direction, bytes) {
+    match bytes::fields::frame_fields(direction, bytes) {
         Brought::Frame(fields) => {
             say_byte(fields.zone);
             say(b" ");
@@ -191,7 +191,7 @@ fn fields(direction: Direction, bytes: &[u8]) {
             say(b" ");
             say_byte(fields.answer);
             say(b" : ");
-            say_bytes(frame::fields::frame_data(direction, bytes))
+            say_bytes(bytes::fields::frame_data(direction, bytes))
         }
         Brought::NotOneFrame => say(b"not one frame"),
     }

@@ -36,14 +36,14 @@ fn read_lines(line: &mut [u8], space: &mut [u8], room: &mut [u8]) {
             end_line(line, count, space, room);
             return;
         }
-        let bytes = frame::fields::bytes_at(&input, 0, got);
+        let bytes = bytes::fields::bytes_at(&input, 0, got);
         count = take_bytes(bytes, line, count, space, room);
     }
 }
 
 fn end_line(line: &mut [u8], count: usize, space: &mut [u8], room: &mut [u8]) {
     if count > 0 {
-        operate(frame::fields::bytes_at(line, 0, count), space, room);
+        operate(bytes::fields::bytes_at(line, 0, count), space, room);
     }
 }
 
@@ -66,7 +66,7 @@ fn take_byte(byte: u8, line: &mut [u8], count: usize, space: &mut [u8], room: &m
     if byte != b'\n' {
         return out::put_byte(line, count, byte);
     }
-    operate(frame::fields::bytes_at(line, 0, count), space, room);
+    operate(bytes::fields::bytes_at(line, 0, count), space, room);
     0
 }
 

@@ -7,12 +7,12 @@ use crate::out::say_counted;
 use crate::words::argument;
 use crate::words::byte;
 use sheet::check::Verdict;
-use sheet::file::FileRead;
 use sheet::line::Line;
 use sheet::lines::SHEET_LIMIT;
-use sheet::write::SheetWritten;
-use tracker::plain::CaptureCell;
-use tracker::sign::Signed;
+use sheetfile::file::FileRead;
+use sheetfile::write::SheetWritten;
+use signing::plain::CaptureCell;
+use signing::sign::Signed;
 
 // An operation on sheet files that writes nothing, and on trackers.
 pub(crate) fn operate(operation: usize, space: &[u8], ends: [usize; 14]) {
@@ -36,9 +36,9 @@ fn say_refused(number: u8, place: usize) {
 }
 
 fn check(letter: u8, file: &[u8]) {
-    match sheet::plain::check_file(letter, file) {
+    match sheetfile::plain::check_file(letter, file) {
         Verdict::Accepted => {
-            say_sheet(sheet::file::read_file_by_letter(letter, file));
+            say_sheet(sheetfile::file::read_file_by_letter(letter, file));
         }
         Verdict::Refused(number, place) => say_refused(number, place),
     }
@@ -88,7 +88,7 @@ pub(crate) fn say_written(written: SheetWritten, buf: &[u8]) {
 }
 
 fn sign(letter: u8, file: &[u8], capture: &[u8]) {
-    match tracker::plain::sign_file(letter, file, capture) {
+    match signing::plain::sign_file(letter, file, capture) {
         Signed::Yes => say(b"signed"),
         Signed::No => say(b"not signed"),
         Signed::Refused(number, place) => say_refused(number, place),
@@ -96,7 +96,7 @@ fn sign(letter: u8, file: &[u8], capture: &[u8]) {
 }
 
 fn cell(letter: u8, capture: &[u8], zone: u8, command: u8) {
-    match tracker::plain::cell_in_capture(letter, capture, zone, command) {
+    match signing::plain::cell_in_capture(letter, capture, zone, command) {
         CaptureCell::Value(value) => {
             say(b"value ");
             say_byte(value)

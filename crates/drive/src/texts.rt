@@ -19,7 +19,7 @@ pub(crate) fn listing(input: &[u8], buf: &mut [u8]) {
         if count == 0 {
             return;
         }
-        say(frame::fields::bytes_at(buf, 0, count));
+        say(bytes::fields::bytes_at(buf, 0, count));
         place = behind;
     }
 }

@@ -51,7 +51,7 @@ pub(crate) fn decoded(line: &[u8], space: &mut [u8]) -> Arguments {
 pub(crate) fn word(line: &[u8], place: usize) -> &[u8] {
     let start = word_start(line, place);
     let end = word_end(line, start);
-    frame::fields::bytes_at(line, start, std::num::wrapping_sub_usize(end, start))
+    bytes::fields::bytes_at(line, start, std::num::wrapping_sub_usize(end, start))
 }
 
 fn word_start(line: &[u8], place: usize) -> usize {
@@ -162,7 +162,7 @@ pub(crate) fn argument(space: &[u8], ends: [usize; 14], place: usize) -> &[u8] {
         return &space[..0];
     }
     let start = ends[place - 1];
-    frame::fields::bytes_at(
+    bytes::fields::bytes_at(
         space,
         start,
         std::num::wrapping_sub_usize(ends[place], start),

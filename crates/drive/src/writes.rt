@@ -7,16 +7,16 @@ use crate::sheets;
 use crate::words::argument;
 use crate::words::byte;
 use crate::words::number;
+use bytes::raw::Written;
+use bytes::raw::write_raw;
 use frame::direction::Direction;
-use frame::raw::Written;
-use frame::raw::write_raw;
 use message::read::Denial;
 use message::read::Message;
 use message::read::Said;
 use message::write::write_fields;
 use message::write::write_message;
 use row::profile::Profile;
-use sheet::write::SheetWritten;
+use sheetfile::write::SheetWritten;
 
 pub(crate) fn operate(operation: usize, space: &[u8], ends: [usize; 14], room: &mut [u8]) {
     let place = length_place(operation);
@@ -29,11 +29,11 @@ pub(crate) fn operate(operation: usize, space: &[u8], ends: [usize; 14], room: &
     let spot = number(space, ends, std::num::wrapping_add_usize(place, 1)) as usize;
     if is_sheet(operation) {
         let written = write_sheet(operation, space, ends, &mut room[skip..], spot);
-        sheets::say_written(written, frame::fields::last_bytes(room, length));
+        sheets::say_written(written, bytes::fields::last_bytes(room, length));
         return;
     }
     let written = write(operation, space, ends, &mut room[skip..], spot);
-    say_written(written, frame::fields::last_bytes(room, length))
+    say_written(written, bytes::fields::last_bytes(room, length))
 }
 
 // Which argument the length is.
@@ -73,9 +73,9 @@ fn write_sheet(
     let letter = byte(space, ends, 1);
     let file = argument(space, ends, 4);
     if operation == names::COPY {
-        return sheet::plain::copy_file(letter, file, buf, spot);
+        return sheetfile::plain::copy_file(letter, file, buf, spot);
     }
-    sheet::plain::run_of_file(letter, file, buf, spot)
+    sheetfile::plain::run_of_file(letter, file, buf, spot)
 }
 
 fn write(

@@ -1,5 +1,4 @@
 pub mod Ruled
-pub mod Room
 pub mod Rules
 pub mod Header
 pub mod Cases
@@ -13,13 +12,3 @@ pub mod Totals
 pub mod Means
 pub mod Cut
 pub mod Tiled
-pub mod Put
-pub mod Tail
-pub mod Whole
-pub mod Placed
-pub mod Again
-pub mod Live
-pub mod Back
-pub mod Refusals
-pub mod OneAnswer
-pub mod Examples

@@ -1,5 +1,5 @@
--- What must be believed: what the rest uses, the frame and its reader, captures, what a frame brings, writing; then the
--- promises. `Computed` need not be believed.
+-- What must be believed: what the rest uses, the frame and its reader, captures; then the promises. `Computed` need not be
+-- believed.
 pub mod Refusal
 pub mod Letter
 pub mod Frame
@@ -7,15 +7,10 @@ pub mod Reader
 pub mod Meaning
 pub mod Small
 pub mod Capture
-pub mod Fields
-pub mod Raw
-pub mod Numbers
 pub mod OneAnswer
 pub mod RulePromise
 pub mod AnswerPromise
 pub mod ReaderPromise
 pub mod CutPromise
 pub mod CapturePromise
-pub mod FramePromise
-pub mod RefusalPromise
 pub mod Computed

@@ -1,7 +1,5 @@
-// Frames on the serial line, both directions: bytes to frames and frames to bytes.
+// Frames on the serial line, both directions, out of bytes that come one by one or as a capture.
 pub mod capture;
 pub mod direction;
-pub mod fields;
-pub mod raw;
 pub mod reader;
 pub mod stream;

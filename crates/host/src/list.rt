@@ -5,13 +5,13 @@ use sheet::line::Line;
 use sheet::lines::Sheet;
 use sheet::lines::no_lines;
 use sheet::lines::with_line;
-use sheet::write::SheetWritten;
-use sheet::write::put_file;
-use sheet::write::put_run;
+use sheetfile::write::SheetWritten;
+use sheetfile::write::put_file;
+use sheetfile::write::put_run;
 ghost use mathlib.Core.Path.{_≡_};
 ghost use Rattle.sheet.specs.Lines.{withAll};
 ghost use Rattle.sheet.specs.Check.{sheetVerdict};
-ghost use Rattle.sheet.specs.Written.{fileAnswered, fileLeft, runAnswered, runLeft};
+ghost use Rattle.sheetfile.specs.Written.{fileAnswered, fileLeft, runAnswered, runLeft};
 
 // A sheet with a list of lines more.
 pub fn with_lines(lines: &[Line], from: Sheet) -> Sheet

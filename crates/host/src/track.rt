@@ -3,20 +3,20 @@ use message::read::Reading;
 use row::profile::Profile;
 use sheet::line::Line;
 use sheet::lines::no_lines;
-use tracker::capture::CaptureAnswer;
-use tracker::capture::after_capture;
-use tracker::capture::capture_signs;
+use signing::capture::CaptureAnswer;
+use signing::capture::after_capture;
+use signing::capture::capture_signs;
+use signing::sign::Signed;
+use signing::sign::sign_sheet;
 use tracker::feed::after_answer;
 use tracker::kept::Kept;
 use tracker::kept::Tracker;
 use tracker::kept::kept_in;
-use tracker::sign::Signed;
-use tracker::sign::sign_sheet;
 ghost use mathlib.Core.Path.{_≡_};
 ghost use Rattle.tracker.specs.Kept.{keptIn};
 ghost use Rattle.tracker.specs.Feed.{fed};
-ghost use Rattle.tracker.specs.Sign.{signOff};
-ghost use Rattle.tracker.specs.Capture.{captureFed, captureSigned};
+ghost use Rattle.signing.specs.Sign.{signOff};
+ghost use Rattle.signing.specs.Capture.{captureFed, captureSigned};
 
 // The byte that a tracker knows of a row and zone.
 pub fn read_cell(tracker: &Tracker, zone: u8, command: u8) -> Kept

@@ -3,7 +3,7 @@ use mathlib.Core.Path.{_≡_}
 use mathlib.Core.List.{List}
 use Prim.Native.Nat.{ℕ}
 use Rattle.frame.specs.OneAnswer.{OneAnswer}
-use Rattle.frame.proofs.OneAnswer.{one}
+use Rattle.bytes.proofs.OneAnswer.{one}
 use Rattle.listed.specs.Listing.{asked}
 use Rattle.listed.specs.declared.asked.Asked.{Asked}
 

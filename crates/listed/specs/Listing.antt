@@ -9,7 +9,7 @@ use lib.ListN.{length, drop}
 use Rattle.frame.specs.Refusal.{line, ruled}
 use Rattle.frame.specs.Letter.{directionOf}
 use Rattle.frame.specs.Capture.{captureLimit, totalsOf, eventsFrom}
-use Rattle.frame.specs.Fields.{bytesAt}
+use Rattle.bytes.specs.Fields.{bytesAt}
 use Rattle.frame.specs.declared.direction.Direction.{Direction}
 use Rattle.frame.specs.declared.direction.Named as direction
 use Rattle.frame.specs.declared.direction.Named.the-variants as directed

@@ -1,4 +1,3 @@
-pub mod Judges
 pub mod Readings
 pub mod Writes
 pub mod Tests

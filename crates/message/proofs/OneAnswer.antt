@@ -3,17 +3,17 @@ use mathlib.Core.Path.{_≡_}
 use mathlib.Core.List.{List}
 use Prim.Native.Nat.{ℕ}
 use lib.IntN.{ℤ}
-use Rattle.frame.specs.Fields.{dataOf}
+use Rattle.bytes.specs.Fields.{dataOf}
 use Rattle.frame.specs.OneAnswer.{OneAnswer}
 use Rattle.frame.specs.declared.direction.Direction.{Direction}
-use Rattle.frame.specs.declared.raw.Written.{Written}
-use Rattle.frame.proofs.OneAnswer.{one, one-lent}
+use Rattle.bytes.specs.declared.raw.Written.{Written}
+use Rattle.bytes.proofs.OneAnswer.{one, one-lent}
 use Rattle.row.specs.Profile.{profileOf, letterOf, zonesOf}
 use Rattle.row.specs.Table.{rowOf}
 use Rattle.row.specs.Signed.{numberOf, codeOf, plainCodeOf}
 use Rattle.row.specs.declared.profile.Profile.{Profile}
 use Rattle.row.specs.declared.table.Row.{Row}
-use Rattle.message.specs.Judge.{isSetting, rowJudged, judgedOf}
+use Rattle.rules.specs.Judge.{isSetting, isAnswer, isWord, lengthOf, rowJudged, judgedOf}
 use Rattle.message.specs.Message.{readOf, frameRead, deniedIn}
 use Rattle.message.specs.Write.{messageAnswered, messageLeft, fieldsAnswered, fieldsLeft}
 use Rattle.message.specs.declared.read.Message.{Message}
@@ -66,3 +66,12 @@ judge-row-one profile zone command = one (rowJudged profile zone command)
 
 pub is-setting-one : (row : Row) (code : ℕ) → OneAnswer (λ x. x ≡ isSetting row code)
 is-setting-one row code = one (isSetting row code)
+
+pub is-answer-one : (row : Row) (code : ℕ) → OneAnswer (λ x. x ≡ isAnswer row code)
+is-answer-one row code = one (isAnswer row code)
+
+pub is-word-one : (row : Row) (byte : ℕ) → OneAnswer (λ x. x ≡ isWord row byte)
+is-word-one row byte = one (isWord row byte)
+
+pub length-fits-one : (dir : Direction) (row : Row) (count : ℕ) → OneAnswer (λ x. x ≡ lengthOf dir row count)
+length-fits-one dir row count = one (lengthOf dir row count)

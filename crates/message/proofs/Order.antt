@@ -7,14 +7,14 @@ use native.Mathlib.Omega.{arith}
 use lib.ListN.{length}
 use Rattle.frame.specs.Refusal.{Line, noRoom}
 use Rattle.frame.specs.Frame.{frameOf}
-use Rattle.frame.specs.Raw.{placed}
+use Rattle.bytes.specs.Raw.{placed}
 use Rattle.frame.specs.RulePromise.{First, None}
-use Rattle.frame.specs.Numbers.{writtenNumber, writtenCount}
+use Rattle.bytes.specs.Numbers.{writtenNumber, writtenCount}
 use Rattle.frame.specs.declared.direction.Direction.{Direction}
-use Rattle.frame.specs.declared.raw.Written.{Written}
-use Rattle.frame.specs.declared.raw.Written.the-variants as written
+use Rattle.bytes.specs.declared.raw.Written.{Written}
+use Rattle.bytes.specs.declared.raw.Written.the-variants as written
 use Rattle.frame.proofs.Rules.{rule-promise}
-use Rattle.frame.proofs.Placed.{refused-keeps}
+use Rattle.bytes.proofs.Placed.{refused-keeps}
 use Rattle.row.specs.declared.profile.Profile.{Profile}
 use Rattle.message.specs.Message.{readLines, messageOf, readOf}
 use Rattle.message.specs.Write.{writeAnswered, writeLeft, writeLines, messageFrame, messageAnswered, messageLeft, fieldsAnswered, fieldsLeft}

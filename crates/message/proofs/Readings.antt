@@ -6,18 +6,18 @@ use Prim.Native.Nat.{ℕ, _<_}
 use native.Mathlib.Omega.{arith}
 use lib.ListN.{length}
 use Rattle.frame.specs.Refusal.{Line, ruled}
-use Rattle.frame.specs.Fields.{isFrame, fieldsIn, dataIn, fieldsOf, dataOf}
+use Rattle.bytes.specs.Fields.{isFrame, fieldsIn, dataIn, fieldsOf, dataOf}
 use Rattle.frame.specs.declared.direction.Direction.{Direction}
-use Rattle.frame.specs.declared.fields.Fields.{Fields}
-use Rattle.frame.specs.declared.fields.Brought.the-variants as brought
+use Rattle.bytes.specs.declared.fields.Fields.{Fields}
+use Rattle.bytes.specs.declared.fields.Brought.the-variants as brought
 use Rattle.frame.proofs.Ruled.{firstNumber, was-refused, was-accepted, refused-with, accepted-by}
 use Rattle.row.specs.Table.{rowOf}
 use Rattle.row.specs.declared.profile.Profile.{Profile}
 use Rattle.row.specs.declared.table.Row.{Row}
-use Rattle.message.specs.Judge.{rowIn, judgeLines, judgedOf}
+use Rattle.rules.specs.Judge.{rowIn, judgeLines, judgedOf}
 use Rattle.message.specs.Content.{contentOf}
 use Rattle.message.specs.Message.{said, saidRead, readOf, fromReading, frameRead, isDenied, deniedIn}
-use Rattle.message.specs.declared.judge.Judged.the-variants as judged
+use Rattle.rules.specs.declared.judge.Judged.the-variants as judged
 use Rattle.message.specs.declared.read.Said.{Said}
 use Rattle.message.specs.declared.read.Message.{Message}
 use Rattle.message.specs.declared.read.SaidReading.the-variants as sayings
@@ -25,7 +25,7 @@ use Rattle.message.specs.declared.read.Reading.the-variants as reading
 use Rattle.message.specs.declared.read.FrameReading.{FrameReading}
 use Rattle.message.specs.declared.read.FrameReading.the-variants as frame
 use Rattle.message.specs.declared.read.Message.the-variants as message
-use Rattle.message.proofs.Judges.{judged-refused, judged-legal, judge-passes, length-some}
+use Rattle.rules.proofs.Judges.{judged-refused, judged-legal, judge-passes, length-some}
 
 said-differs : (s : Said) (n : ℕ) → sayings.Said s ≡ sayings.Refused n → ⊥
 said-differs s n e = let z : _≡_ {A = ℕ} 0 1 = cc in omega arith

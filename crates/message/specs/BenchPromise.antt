@@ -5,7 +5,7 @@ use mathlib.Core.Bool.{true}
 use mathlib.Core.List.{List, [], _∷_, map}
 use Prim.Native.Nat.{ℕ}
 use lib.IntN.{pos, negℤ}
-use Rattle.frame.specs.Fields.{bytesAt}
+use Rattle.bytes.specs.Fields.{bytesAt}
 use Rattle.frame.specs.Capture.{eventsFrom, firstOf}
 use Rattle.frame.specs.declared.direction.Direction.{Direction}
 use Rattle.frame.specs.declared.direction.Direction.the-variants.{Command, Answer}

@@ -1,6 +1,4 @@
--- What must be believed: the lines of the refusals, what data say, messages read and written; then the promises. `Passed` need
--- not be believed.
-pub mod Judge
+-- What must be believed: what data say, messages read and written; then the promises. `Passed` need not be believed.
 pub mod Content
 pub mod Message
 pub mod Write

@@ -4,8 +4,8 @@ use Prim.Native.Nat.{ℕ}
 use mathlib.Core.List.{List, []}
 use Rattle.message.specs.Write.{saidData}
 use Rattle.row.specs.declared.profile.Profile.{Profile}
-use Rattle.message.specs.declared.judge.Judged.{Judged}
-use Rattle.message.specs.declared.judge.Judged.the-variants as judged
+use Rattle.rules.specs.declared.judge.Judged.{Judged}
+use Rattle.rules.specs.declared.judge.Judged.the-variants as judged
 use Rattle.message.specs.declared.read.Message.{Message}
 use Rattle.message.specs.declared.read.Message.the-variants as message
 use Rattle.message.specs.declared.read.Reading.{Reading}

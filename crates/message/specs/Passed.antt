@@ -1,8 +1,8 @@
 -- How a refusal's number is passed on, from one answer's kind to the next. What is no refusal never comes here.
-use Rattle.frame.specs.declared.raw.Written.{Written}
-use Rattle.frame.specs.declared.raw.Written.the-variants as written
-use Rattle.message.specs.declared.judge.Judged.{Judged}
-use Rattle.message.specs.declared.judge.Judged.the-variants as judged
+use Rattle.bytes.specs.declared.raw.Written.{Written}
+use Rattle.bytes.specs.declared.raw.Written.the-variants as written
+use Rattle.rules.specs.declared.judge.Judged.{Judged}
+use Rattle.rules.specs.declared.judge.Judged.the-variants as judged
 use Rattle.message.specs.declared.read.SaidReading.{SaidReading}
 use Rattle.message.specs.declared.read.SaidReading.the-variants as sayings
 use Rattle.message.specs.declared.read.Reading.{Reading}

@@ -3,7 +3,7 @@
 use mathlib.Core.Path.{_≡_}
 use mathlib.Core.List.{List}
 use Prim.Native.Nat.{ℕ}
-use Rattle.frame.specs.Numbers.{writtenNumber, writtenCount}
+use Rattle.bytes.specs.Numbers.{writtenNumber, writtenCount}
 use Rattle.frame.specs.declared.direction.Direction.{Direction}
 use Rattle.row.specs.declared.profile.Profile.{Profile}
 use Rattle.message.specs.Message.{readOf}

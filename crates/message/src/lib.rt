@@ -1,5 +1,4 @@
 // Messages: what frames mean in a profile, read from and written as zone, command, answer code and data.
 pub mod content;
-pub mod judge;
 pub mod read;
 pub mod write;

@@ -1,14 +1,14 @@
 use crate::content::Content;
 use crate::content::content_of;
-use crate::judge::Judged;
-use crate::judge::judge;
+use bytes::fields::Brought;
 use frame::direction::Direction;
-use frame::fields::Brought;
 use row::profile::Profile;
+use rules::judge::Judged;
+use rules::judge::judge;
 ghost use mathlib.Core.Path.{_≡_};
 ghost use Rattle.frame.specs.declared.direction.Direction.the-variants as direction;
 ghost use Rattle.message.specs.Message.{saidRead, readOf, frameRead, isDenialMessage, isDenied, deniedIn};
-ghost use Rattle.frame.specs.Fields.{dataOf};
+ghost use Rattle.bytes.specs.Fields.{dataOf};
 ghost use Rattle.message.specs.Passed.{judgedOn, saidOn, readingOn};
 
 // What a command asks for, or a status tells: zone, command, and what the data say.
@@ -54,11 +54,11 @@ pub enum SaidReading {
 pub fn read_frame(profile: Profile, direction: Direction, bytes: &[u8]) -> FrameReading
     ensures { λ r. ⌜ r ≡ frameRead profile direction (now (bytes .entry)) ⌝ }
 {
-    let brought = frame::fields::frame_fields(direction, bytes);
+    let brought = bytes::fields::frame_fields(direction, bytes);
     let Brought::Frame(fields) = brought else {
         return FrameReading::NotOneFrame;
     };
-    let body = frame::fields::frame_data(direction, bytes);
+    let body = bytes::fields::frame_data(direction, bytes);
     let reading = read_message(
         profile,
         direction,
@@ -98,7 +98,7 @@ pub fn denied_data(profile: Profile, direction: Direction, bytes: &[u8]) -> &[u8
     if !is_denied(read_frame(profile, direction, bytes)) {
         return &bytes[..0];
     }
-    frame::fields::frame_data(direction, bytes)
+    bytes::fields::frame_data(direction, bytes)
 }
 
 fn is_denied(reading: FrameReading) -> bool

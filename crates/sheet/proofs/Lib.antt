@@ -1,13 +1,3 @@
 pub mod Repeats
 pub mod Faults
 pub mod Sheets
-pub mod Together
-pub mod Records
-pub mod Files
-pub mod Filled
-pub mod Rooms
-pub mod Trips
-pub mod Writes
-pub mod Plains
-pub mod Witness
-pub mod OneAnswer

@@ -1,14 +1,6 @@
--- What must be believed: a sheet's lines, its check, its file, its run, what writing answers and leaves; then the promises.
--- `Computed` need not be believed.
+-- What must be believed: a sheet's lines and its check; then the promise. `Computed` need not be believed.
 pub mod Line
 pub mod Lines
 pub mod Check
-pub mod File
-pub mod Run
-pub mod Written
-pub mod Plain
 pub mod SheetPromise
-pub mod FilePromise
-pub mod WrittenPromise
-pub mod PlainPromise
 pub mod Computed

@@ -1,11 +1,11 @@
-use message::judge::Judged;
-use message::judge::is_setting;
-use message::judge::judge_row;
 use row::profile::Profile;
 use row::table::Row;
+use rules::judge::Judged;
+use rules::judge::is_setting;
+use rules::judge::judge_row;
 ghost use mathlib.Core.Path.{_≡_};
 ghost use mathlib.Core.Bool.{_&&_};
-ghost use Rattle.message.specs.Judge.{isSetting};
+ghost use Rattle.rules.specs.Judge.{isSetting};
 ghost use Rattle.sheet.specs.Line.{isSheetValue, isLegal, sameCell};
 
 // A line of a sheet: the value that a row is to have in a zone.

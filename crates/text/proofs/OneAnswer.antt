@@ -3,8 +3,8 @@ use mathlib.Core.Path.{_≡_}
 use mathlib.Core.List.{List}
 use Prim.Native.Nat.{ℕ}
 use Rattle.frame.specs.OneAnswer.{OneAnswer}
-use Rattle.frame.specs.declared.raw.Written.{Written}
-use Rattle.frame.proofs.OneAnswer.{one-lent}
+use Rattle.bytes.specs.declared.raw.Written.{Written}
+use Rattle.bytes.proofs.OneAnswer.{one-lent}
 use Rattle.listed.specs.Number.{decimal, hexByte}
 use Rattle.text.specs.Text.{textAnswered, textLeft}
 use Rattle.text.specs.Pieces.{pieceAnswered, pieceLeft}

@@ -5,7 +5,7 @@ use Prim.Native.Nat.{ℕ, _+_, _-_, _≤_}
 use native.Mathlib.Omega.{arith}
 use lib.ListN.{length, take, drop, length-append, take-append-drop}
 use lib.Seq.{length-take-le, take-at, drop-at, drop-drop}
-use Rattle.frame.specs.Raw.{placed}
+use Rattle.bytes.specs.Raw.{placed}
 use Rattle.listed.specs.Listing.{textLine}
 use Rattle.text.specs.Computed.{Put, behind}
 

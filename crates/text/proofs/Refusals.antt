@@ -7,8 +7,8 @@ use native.Mathlib.Omega.{arith}
 use borrow.Author.Tests.{lt-ltb}
 use lib.Dec.{ltb}
 use lib.ListN.{length}
-use Rattle.frame.specs.Raw.{placed}
-use Rattle.frame.specs.declared.raw.Written.the-variants.{Bytes, Refused}
+use Rattle.bytes.specs.Raw.{placed}
+use Rattle.bytes.specs.declared.raw.Written.the-variants.{Bytes, Refused}
 use Rattle.text.specs.Text.{textAnswered, textLeft}
 use Rattle.text.specs.Pieces.{lineLimit, pieceAnswered, pieceLeft}
 use Rattle.text.specs.Numbers.{pieceNumber, pieceCount}

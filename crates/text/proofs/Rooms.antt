@@ -4,10 +4,10 @@ use mathlib.Core.List.{List}
 use Prim.Native.Nat.{ℕ, _-_, _≤_, _<_}
 use native.Mathlib.Omega.{arith}
 use lib.ListN.{length}
-use Rattle.frame.specs.Raw.{placed}
-use Rattle.frame.specs.declared.raw.Written.{Written}
-use Rattle.frame.specs.declared.raw.Written.the-variants.{Bytes, Refused}
-use Rattle.frame.proofs.Room.{no-place, no-room, has-room}
+use Rattle.bytes.specs.Raw.{placed}
+use Rattle.bytes.specs.declared.raw.Written.{Written}
+use Rattle.bytes.specs.declared.raw.Written.the-variants.{Bytes, Refused}
+use Rattle.bytes.proofs.Room.{no-place, no-room, has-room}
 use Rattle.text.specs.Text.{textAnswered, textLeft}
 
 module _ (buf : List ℕ) (at : ℕ) (bytes : List ℕ) (n : ℕ) (long : length bytes ≡ n) where

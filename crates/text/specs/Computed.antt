@@ -5,7 +5,7 @@ use mathlib.Core.List.{List, [], _∷_, _++_}
 use mathlib.Core.Path.{_≡_}
 use lib.Dec.{ltb}
 use lib.ListN.{length}
-use Rattle.frame.specs.Raw.{placed}
+use Rattle.bytes.specs.Raw.{placed}
 use Rattle.listed.specs.Letters.{letters}
 use Rattle.listed.specs.Number.{digit, decimal, hexByte}
 use Rattle.listed.specs.Listing.{valueText, textLine}

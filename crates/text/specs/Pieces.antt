@@ -5,7 +5,7 @@ use mathlib.Core.List.{List, [], _∷_, _++_}
 use lib.Dec.{ltb}
 use lib.ListN.{length, drop}
 use Rattle.frame.specs.Refusal.{Line, line, ruled}
-use Rattle.frame.specs.Raw.{placed}
+use Rattle.bytes.specs.Raw.{placed}
 use Rattle.frame.specs.Capture.{totalsOf, eventsFrom}
 use Rattle.frame.specs.declared.direction.Direction.{Direction}
 use Rattle.frame.specs.declared.capture.Event.{Event}

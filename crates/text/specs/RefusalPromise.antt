@@ -3,7 +3,7 @@ use Prim.Native.Nat.{ℕ, _<_}
 use mathlib.Core.Path.{_≡_}
 use mathlib.Core.List.{List}
 use lib.ListN.{length}
-use Rattle.frame.specs.declared.raw.Written.the-variants.{Refused}
+use Rattle.bytes.specs.declared.raw.Written.the-variants.{Refused}
 use Rattle.text.specs.Text.{textAnswered, textLeft}
 use Rattle.text.specs.Pieces.{lineLimit, pieceAnswered, pieceLeft}
 use Rattle.text.specs.Numbers.{pieceNumber, pieceCount}

@@ -3,9 +3,9 @@ use Prim.Native.Nat.{ℕ}
 use mathlib.Core.List.{List, [], _∷_}
 use lib.ListN.{length}
 use Rattle.frame.specs.Refusal.{ruled, noRoom}
-use Rattle.frame.specs.Raw.{placed}
-use Rattle.frame.specs.declared.raw.Written.{Written}
-use Rattle.frame.specs.declared.raw.Written.the-variants.{Bytes, Refused}
+use Rattle.bytes.specs.Raw.{placed}
+use Rattle.bytes.specs.declared.raw.Written.{Written}
+use Rattle.bytes.specs.declared.raw.Written.the-variants.{Bytes, Refused}
 
 -- 9, or how many bytes it is; and the buffer after it
 abbrev pub textAnswered : List ℕ → ℕ → List ℕ → Written

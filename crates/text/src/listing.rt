@@ -17,7 +17,7 @@ ghost use mathlib.Core.List.{_++_};
 ghost use Prim.Native.Nat.{_+_, _^_, _≤_, _<_};
 ghost use lib.ListN.{length};
 ghost use Rattle.frame.specs.Capture.{captureLimit, eventsFrom, totalsOf};
-ghost use Rattle.frame.specs.Raw.{placed};
+ghost use Rattle.bytes.specs.Raw.{placed};
 ghost use Rattle.listed.specs.Number.{decimal};
 ghost use Rattle.listed.specs.Listing.{totalLine};
 ghost use Rattle.text.specs.Pieces.{lineLimit, eventSteps, linesFrom, refusedLines, filled, textAs, pieceAnswered, pieceLeft};

@@ -1,7 +1,7 @@
 use crate::put::places_of;
 use crate::put::put_hex;
 use crate::put::put_places;
-use frame::raw::Written;
+use bytes::raw::Written;
 ghost use mathlib.Core.Path.{_≡_};
 ghost use Rattle.listed.specs.Number.{decimal, hexByte};
 ghost use Rattle.text.specs.Text.{textAnswered, textLeft};

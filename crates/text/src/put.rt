@@ -3,7 +3,7 @@ ghost use mathlib.Core.Path.{_≡_};
 ghost use Prim.Native.Nat.{_+_, _≤_, _<_};
 ghost use lib.IntN.{natAbs};
 ghost use lib.ListN.{length};
-ghost use Rattle.frame.specs.Raw.{placed};
+ghost use Rattle.bytes.specs.Raw.{placed};
 ghost use Rattle.listed.specs.Number.{decimal, hexDigit, hexByte};
 ghost use Rattle.listed.specs.Listing.{integer};
 ghost use Rattle.text.specs.Computed.{places, lastDigits, Put};

@@ -1,15 +1,5 @@
--- Proofs about trackers: their cells, feeding, history, sign-off, captures, refusals, one answer for each function, and computed
--- witnesses.
+-- Proofs about trackers: their cells, what they keep, feeding and history.
 pub mod Cells
 pub mod Keeps
 pub mod Feeds
 pub mod History
-pub mod Signs
-pub mod Captures
-pub mod Frames
-pub mod CaptureSigns
-pub mod Refusals
-pub mod OneAnswer
-pub mod Witness
-pub mod Together
-pub mod Plains

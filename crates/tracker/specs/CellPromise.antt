@@ -9,8 +9,8 @@ use Rattle.row.specs.Table.{rowOf}
 use Rattle.row.specs.declared.profile.Profile.{Profile}
 use Rattle.row.specs.declared.table.Row.{Row}
 use Rattle.row.specs.declared.table.Found.the-variants as found
-use Rattle.message.specs.Judge.{rowJudged}
-use Rattle.message.specs.declared.judge.Judged.the-variants as judged
+use Rattle.rules.specs.Judge.{rowJudged}
+use Rattle.rules.specs.declared.judge.Judged.the-variants as judged
 use Rattle.sheet.specs.Line.{isSheetValue}
 use Rattle.tracker.specs.Cell.{cellCount, cellOf}
 use Rattle.tracker.specs.Kept.{knownState, keptIn}

@@ -1,16 +1,9 @@
--- What must be believed: a tracker's cells, what it keeps, what an answer makes of it, the sign-off, captures, the numbers of the
--- answers, and the promises of these.
+-- What must be believed: a tracker's cells, what it keeps, what an answer makes of it, the numbers of the answers, and the
+-- promises of these.
 pub mod Cell
 pub mod Kept
 pub mod Feed
-pub mod Sign
-pub mod Capture
-pub mod Plain
 pub mod Numbers
 pub mod CellPromise
 pub mod FeedPromise
 pub mod HistoryPromise
-pub mod SignPromise
-pub mod CapturePromise
-pub mod PlainPromise
-pub mod RefusalPromise

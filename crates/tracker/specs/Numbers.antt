@@ -7,10 +7,6 @@ use Rattle.message.specs.Numbers.{readingNumber, Paper, readingPaper}
 use Rattle.tracker.specs.declared.kept.Kept.{Kept}
 use Rattle.tracker.specs.declared.kept.Kept.the-variants as kept
 use Rattle.tracker.specs.declared.feed.Fed.{Fed}
-use Rattle.tracker.specs.declared.sign.Signed.{Signed}
-use Rattle.tracker.specs.declared.sign.Signed.the-variants as signed
-use Rattle.tracker.specs.declared.capture.CaptureAnswer.{CaptureAnswer}
-use Rattle.tracker.specs.declared.capture.CaptureAnswer.the-variants as answer
 
 -- what is kept: no refusal; 1 stands for a byte, 0 for unknown and 2 for no cell, for which the paper has no numbers; its byte
 abbrev pub keptState : Kept → ℕ
@@ -29,24 +25,3 @@ fedNumber f = readingNumber (f .reading)
 
 abbrev pub fedPaper : Fed → List ℕ → Paper
 fedPaper f body = readingPaper (f .tracker .profile) (f .reading) body
-
--- a sign-off: its number, the line's index, and 1 for yes and 0 for no
-abbrev pub signedNumber : Signed → ℕ
-signedNumber signed.Yes = 0
-signedNumber signed.No = 0
-signedNumber (signed.Refused n i) = n
-
-abbrev pub signedPlace : Signed → ℕ
-signedPlace signed.Yes = 0
-signedPlace signed.No = 0
-signedPlace (signed.Refused n i) = i
-
-abbrev pub signedYes : Signed → ℕ
-signedYes signed.Yes = 1
-signedYes signed.No = 0
-signedYes (signed.Refused n i) = 0
-
--- a capture that was fed: its number; it has no place
-abbrev pub captureNumber : CaptureAnswer → ℕ
-captureNumber answer.Fed = 0
-captureNumber (answer.Refused n) = n

@@ -5,7 +5,7 @@ use mathlib.Core.List.{List, [], _∷_, _++_}
 use native.Mathlib.Omega.{arith}
 use Rattle.row.specs.declared.profile.Profile.{Profile}
 use Rattle.sheet.specs.Line.{isLegal, sameCell, isRepeated}
-use Rattle.sheet.specs.Run.{flush, runOf}
+use Rattle.sheetfile.specs.Run.{flush, runOf}
 use Rattle.sheet.specs.SheetPromise.{AllSound}
 use Rattle.sheet.specs.declared.line.Line.{Line}
 use Rattle.sheet.proofs.Sheets.{sheet-promise}

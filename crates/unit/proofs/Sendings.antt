@@ -12,7 +12,7 @@ use Rattle.frame.specs.declared.direction.Direction.the-variants.{Command}
 use Rattle.row.specs.declared.profile.Profile.{Profile}
 use Rattle.sheet.specs.Lines.{inOrder}
 use Rattle.sheet.specs.Line.{isLegal, sameCell}
-use Rattle.sheet.specs.Run.{lineFrame, framesOf}
+use Rattle.sheetfile.specs.Run.{lineFrame, framesOf}
 use Rattle.sheet.specs.declared.line.Line.{Line}
 use Rattle.unit.specs.Unit.{Cell, value, Settings, isCell, put, Unit, Done, takes, frameDone, after}
 use Rattle.unit.specs.Sending.{Each, Bytes, cellOf, NotOn, Apart, sending, sendings}

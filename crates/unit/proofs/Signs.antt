@@ -12,7 +12,7 @@ use Rattle.frame.specs.declared.direction.Direction.the-variants.{Command, Answ
 use Rattle.row.specs.declared.profile.Profile.{Profile}
 use Rattle.sheet.specs.Line.{isLegal}
 use Rattle.sheet.specs.Lines.{inOrder}
-use Rattle.sheet.specs.Run.{flush, lineFrame, framesOf, runOf}
+use Rattle.sheetfile.specs.Run.{flush, lineFrame, framesOf, runOf}
 use Rattle.sheet.specs.declared.line.Line.{Line}
 use Rattle.message.specs.Message.{fromReading, frameRead, readOf}
 use Rattle.message.specs.declared.read.Message.{Message}
@@ -23,18 +23,18 @@ use Rattle.tracker.specs.Cell.{cellOf as trackerCell}
 use Rattle.tracker.specs.Kept.{fresh, keptIn}
 use Rattle.tracker.specs.Feed.{Brought, fedAll}
 use Rattle.tracker.specs.HistoryPromise.{IsStatus, NoneOf, Last, HistoryPromise}
-use Rattle.tracker.specs.SignPromise.{AllHold}
-use Rattle.tracker.specs.Capture.{broughtBy}
+use Rattle.signing.specs.SignPromise.{AllHold}
+use Rattle.signing.specs.Capture.{broughtBy}
 use Rattle.tracker.specs.declared.kept.Tracker.{Tracker}
 use Rattle.tracker.specs.declared.cell.Cell.the-variants as cell
 use Rattle.tracker.specs.declared.kept.Kept.the-variants.{Value}
 use Rattle.tracker.proofs.Cells.{legal-cell}
-use Rattle.tracker.proofs.Frames.{brought-none, brought-one}
+use Rattle.signing.proofs.Frames.{brought-none, brought-one}
 use Rattle.tracker.proofs.History.{history-promise}
-use Rattle.tracker.proofs.Signs.{its-verdict, sign-promise}
-use Rattle.tracker.proofs.CaptureSigns.{short}
-use Rattle.tracker.specs.Sign.{signOff}
-use Rattle.tracker.specs.declared.sign.Signed.the-variants.{Yes}
+use Rattle.signing.proofs.Signs.{its-verdict, sign-promise}
+use Rattle.signing.proofs.CaptureSigns.{short}
+use Rattle.signing.specs.Sign.{signOff}
+use Rattle.signing.specs.declared.sign.Signed.the-variants.{Yes}
 use Rattle.sheet.specs.Check.{sheetVerdict}
 use Rattle.sheet.specs.declared.check.Verdict.the-variants as verdict
 use Rattle.sheet.proofs.Sheets.{sheet-promise}

@@ -9,7 +9,7 @@ use borrow.Author.Tests.{eqb-true, eqb-false}
 use lib.Dec.{eqb}
 use lib.ListN.{length}
 use Rattle.frame.specs.Frame.{frameOf}
-use Rattle.frame.specs.Fields.{dataIn}
+use Rattle.bytes.specs.Fields.{dataIn}
 use Rattle.frame.specs.declared.direction.Direction.the-variants.{Command, Answer}
 use Rattle.row.specs.declared.profile.Profile.{Profile}
 use Rattle.message.specs.Content.{contentOf}
@@ -23,18 +23,18 @@ use Rattle.tracker.specs.Kept.{fresh, keptIn}
 use Rattle.tracker.specs.Feed as feed
 use Rattle.tracker.specs.Feed.{Brought, fedAll}
 use Rattle.tracker.specs.FeedPromise.{FeedPromise}
-use Rattle.tracker.specs.Sign.{signOff}
-use Rattle.tracker.specs.SignPromise.{AllHold}
-use Rattle.tracker.specs.Capture.{broughtBy}
+use Rattle.signing.specs.Sign.{signOff}
+use Rattle.signing.specs.SignPromise.{AllHold}
+use Rattle.signing.specs.Capture.{broughtBy}
 use Rattle.tracker.specs.declared.cell.Cell as tracked
 use Rattle.tracker.specs.declared.cell.Cell.the-variants as cell
 use Rattle.tracker.specs.declared.kept.Tracker.{Tracker}
 use Rattle.tracker.specs.declared.kept.Kept.the-variants as kept
-use Rattle.tracker.specs.declared.sign.Signed.the-variants.{Yes}
+use Rattle.signing.specs.declared.sign.Signed.the-variants.{Yes}
 use Rattle.tracker.proofs.Feeds.{feed-promise}
 use Rattle.tracker.proofs.History.{Fit, fit-all, fed-append, history-promise}
-use Rattle.tracker.proofs.Signs.{sign-promise}
-use Rattle.tracker.proofs.CaptureSigns.{capture-promise, short}
+use Rattle.signing.proofs.Signs.{sign-promise}
+use Rattle.signing.proofs.CaptureSigns.{capture-promise, short}
 use Rattle.unit.specs.House.{valueAfter}
 use Rattle.unit.specs.Unit.{Cell, value, input, Settings, isCell, put, Unit, about, shown, Done, refusalCode, refused, acted, zoneIn, commandIn, frameDone, done, takes, after, replies}
 use Rattle.unit.specs.Legal.{Legal}
@@ -44,7 +44,7 @@ use Rattle.unit.specs.TruthPromise.{tracked as tracked-by, TruthPromise}
 use Rattle.unit.proofs.Acts.{either, rowFor, Accepted}
 use Rattle.unit.proofs.Answers.{denied-reads, reads-said, which-cell}
 use Rattle.unit.proofs.Streams.{by-frame, unit-promise}
-use Rattle.tracker.proofs.Frames.{brought-none, brought-one, brought-behind}
+use Rattle.signing.proofs.Frames.{brought-none, brought-one, brought-behind}
 
 -- answers that stand before others bring what they bring alone
 abbrev Splits : List ℕ → Type 0

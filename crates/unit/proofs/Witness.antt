@@ -14,14 +14,14 @@ use Rattle.row.specs.Table.{table, firstRow}
 use Rattle.row.specs.declared.profile.Profile.{Profile}
 use Rattle.row.specs.declared.profile.Profile.the-variants.{A}
 use Rattle.row.specs.declared.table.Row.{Row}
-use Rattle.message.specs.Judge.{isAnswer, rowJudged}
+use Rattle.rules.specs.Judge.{isAnswer, rowJudged}
 use Rattle.message.specs.Content.{contentOf}
 use Rattle.message.specs.Message.{readOf}
 use Rattle.message.proofs.Tidy.{every, row-passes}
 use Rattle.sheet.specs.Lines.{inOrder}
 use Rattle.sheet.specs.Line.{isLegal, isRepeated}
 use Rattle.sheet.specs.Check.{lowestFault, sheetVerdict}
-use Rattle.sheet.specs.Run.{runOf}
+use Rattle.sheetfile.specs.Run.{runOf}
 use Rattle.sheet.specs.declared.line.Line.{Line}
 use Rattle.sheet.specs.declared.check.Verdict.the-variants.{Accepted}
 use Rattle.unit.specs.Unit.{value, Unit, frameDone, after}

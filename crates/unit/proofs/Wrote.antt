@@ -4,12 +4,12 @@ use mathlib.Core.List.{List}
 use Prim.Native.Nat.{ℕ}
 use Rattle.row.specs.declared.profile.Named.{Named}
 use Rattle.sheet.specs.Check.{sheetVerdict}
-use Rattle.sheet.specs.File.{records, linesIn, fileVerdict}
-use Rattle.sheet.specs.Run.{runOf}
-use Rattle.sheet.specs.Plain.{fileRunAnswered, fileRunLeft}
+use Rattle.sheetfile.specs.File.{records, linesIn, fileVerdict}
+use Rattle.sheetfile.specs.Run.{runOf}
+use Rattle.sheetfile.specs.Plain.{fileRunAnswered, fileRunLeft}
 use Rattle.sheet.specs.declared.check.Verdict.the-variants as verdict
-use Rattle.sheet.proofs.Trips.{accepted-marked}
-use Rattle.sheet.proofs.Writes.{wrote}
+use Rattle.sheetfile.proofs.Trips.{accepted-marked}
+use Rattle.sheetfile.proofs.Writes.{wrote}
 use Rattle.unit.specs.Sending.{sendings}
 use Rattle.unit.specs.Demand3.{stopped, Promised}
 use Rattle.unit.specs.WrittenDemand3.{placedBytes, WrittenDemand3}

@@ -12,7 +12,7 @@ use Rattle.frame.specs.Reader.{takenBy}
 use Rattle.frame.specs.declared.direction.Direction.the-variants.{Command}
 use Rattle.row.specs.declared.profile.Profile.{Profile}
 use Rattle.sheet.specs.Check.{sheetVerdict}
-use Rattle.sheet.specs.Run.{runOf}
+use Rattle.sheetfile.specs.Run.{runOf}
 use Rattle.sheet.specs.declared.line.Line.{Line}
 use Rattle.sheet.specs.declared.check.Verdict.the-variants.{Accepted}
 use Rattle.unit.specs.Unit.{Cell, Settings, Unit, Holds, after}

@@ -5,7 +5,7 @@ use mathlib.Core.Bool.{false}
 use mathlib.Core.List.{List, [], _∷_, _++_}
 use lib.ListN.{take, replicate}
 use Rattle.sheet.specs.Line.{sameCell}
-use Rattle.sheet.specs.Run.{framesOf}
+use Rattle.sheetfile.specs.Run.{framesOf}
 use Rattle.sheet.specs.declared.line.Line.{Line}
 use Rattle.unit.specs.Unit.{Cell, value}
 

@@ -9,16 +9,16 @@ use lib.ListN.{length}
 use Rattle.frame.specs.Capture.{captureLimit}
 use Rattle.row.specs.declared.profile.Profile.{Profile}
 use Rattle.sheet.specs.Check.{sheetVerdict}
-use Rattle.sheet.specs.Run.{runOf}
+use Rattle.sheetfile.specs.Run.{runOf}
 use Rattle.sheet.specs.declared.line.Line.{Line}
 use Rattle.sheet.specs.declared.check.Verdict.the-variants as verdict
 use Rattle.tracker.specs.Kept.{fresh, keptIn}
 use Rattle.tracker.specs.Feed.{fedAll}
-use Rattle.tracker.specs.Sign.{signOff}
-use Rattle.tracker.specs.Capture.{broughtBy, captureSigned}
+use Rattle.signing.specs.Sign.{signOff}
+use Rattle.signing.specs.Capture.{broughtBy, captureSigned}
 use Rattle.tracker.specs.declared.kept.Tracker.{Tracker}
 use Rattle.tracker.specs.declared.kept.Kept.the-variants.{Value}
-use Rattle.tracker.specs.declared.sign.Signed.the-variants.{Yes}
+use Rattle.signing.specs.declared.sign.Signed.the-variants.{Yes}
 use Rattle.unit.specs.Unit.{value, Settings, Unit, Holds, after, replies}
 use Rattle.unit.specs.Legal.{Legal}
 use Rattle.unit.specs.Sending.{Each, Bytes, cellOf, sendings}

@@ -12,7 +12,7 @@ use Rattle.row.specs.Table.{rowOf}
 use Rattle.row.specs.declared.profile.Profile.{Profile}
 use Rattle.row.specs.declared.table.Row.{Row}
 use Rattle.row.specs.declared.table.Found.the-variants as found
-use Rattle.message.specs.Judge.{rowIn}
+use Rattle.rules.specs.Judge.{rowIn}
 use Rattle.message.specs.Content.{contentOf}
 use Rattle.message.specs.Message.{fromReading, frameRead}
 use Rattle.message.specs.declared.content.Content.the-variants.{Request, Input}
@@ -21,7 +21,7 @@ use Rattle.message.specs.declared.read.Message.the-variants as message
 use Rattle.message.specs.declared.read.Reading.the-variants as reading
 use Rattle.message.specs.declared.read.FrameReading.the-variants as frame
 use Rattle.sheet.specs.Line.{isLegal}
-use Rattle.sheet.specs.Run.{lineFrame}
+use Rattle.sheetfile.specs.Run.{lineFrame}
 use Rattle.sheet.specs.declared.line.Line.{Line}
 use Rattle.unit.specs.House.{valueAfter}
 use Rattle.unit.specs.Unit.{Cell, value, input, current, Settings, put, Unit, Done, nothing, shown, refusalCode, zoneIn, commandIn, heard, frameDone, done, takes, after, replies}

@@ -7,11 +7,11 @@ use lib.ListN.{take, drop}
 use Rattle.row.specs.Profile.{profileOf}
 use Rattle.row.specs.declared.profile.Profile.{Profile}
 use Rattle.row.specs.declared.profile.Named.the-variants as named
-use Rattle.sheet.specs.File.{records, linesIn}
-use Rattle.sheet.specs.Written.{runAnswered, runLeft}
-use Rattle.sheet.specs.Plain.{fileRunAnswered, fileRunLeft}
+use Rattle.sheetfile.specs.File.{records, linesIn}
+use Rattle.sheetfile.specs.Written.{runAnswered, runLeft}
+use Rattle.sheetfile.specs.Plain.{fileRunAnswered, fileRunLeft}
 use Rattle.sheet.specs.declared.line.Line.{Line}
-use Rattle.sheet.specs.declared.write.SheetWritten.the-variants as written
+use Rattle.sheetfile.specs.declared.write.SheetWritten.the-variants as written
 use Rattle.unit.specs.Unit.{Settings}
 use Rattle.unit.specs.Legal.{Legal}
 use Rattle.unit.specs.Sending.{Bytes, sendings}

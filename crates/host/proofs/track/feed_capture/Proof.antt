@@ -40,19 +40,19 @@ use denote.Triple.Table.{entered, cited}
 use denote.Triple.Walked.{says, Stays, stay-ref, stay-none-slice, walkOf, AllGo, goes-ref, goes-none-slice, Walks, ends-at, walked, walk-meets}
 use denote.Triple.Clauses.{ensured, lasts}
 use denote.Exit.{yes}
-use Rattle.tracker.specs.Capture.{captureFed}
+use Rattle.signing.specs.Capture.{captureFed}
 use Rattle.tracker.specs.declared.kept.Tracker.{Tracker}
-use Rattle.tracker.specs.declared.capture.CaptureFed.{CaptureFed}
+use Rattle.signing.specs.declared.capture.CaptureFed.{CaptureFed}
 use Rattle.tracker.proofs.kept.Tracker as T
 use Rattle.tracker.proofs.kept.Tracker.Laws as T′
-use Rattle.tracker.proofs.capture.CaptureFed as D1
-use Rattle.tracker.proofs.capture.CaptureFed.Laws as D1′
-use Rattle.tracker.proofs.capture.CaptureAnswer as D2
-use Rattle.tracker.proofs.capture.CaptureAnswer.Laws as D2′
-use Rattle.tracker.proofs.capture.after_capture as g
-use Rattle.tracker.proofs.capture.after_capture.Symbol as g-def
-use Rattle.tracker.proofs.capture.after_capture.Symbol.{name as #tracker·capture·after-capture}
-use Rattle.tracker.proofs.capture.after_capture.Met as g-thm
+use Rattle.signing.proofs.capture.CaptureFed as D1
+use Rattle.signing.proofs.capture.CaptureFed.Laws as D1′
+use Rattle.signing.proofs.capture.CaptureAnswer as D2
+use Rattle.signing.proofs.capture.CaptureAnswer.Laws as D2′
+use Rattle.signing.proofs.capture.after_capture as g
+use Rattle.signing.proofs.capture.after_capture.Symbol as g-def
+use Rattle.signing.proofs.capture.after_capture.Symbol.{name as #tracker·capture·after-capture}
+use Rattle.signing.proofs.capture.after_capture.Met as g-thm
 use Rattle.host.proofs.track.feed_capture.Key.{name as #host·track·feed-capture}
 use Rattle.host.proofs.track.feed_capture as f
 use Rattle.host.proofs.track.feed_capture.Statement as stated
@@ -147,4 +147,4 @@ feed-capture-spec 𝓤 H 𝓜 𝓖 𝓡 =
     entered 𝓤 H (tripleOf 𝓤 H (𝓖 .A) f.signature (f.spec 𝓤 H (𝓖 .A) (𝓜 .mem) (𝓡 .run)))
     (tables 𝓤 H 𝓜 𝓡 code.env .C) (tables 𝓤 H 𝓜 𝓡 code.env .Λ) #host·track·feed-capture code.function (code.unfolded 𝓤 H 𝓜 𝓡)
     (meets 𝓤 H (𝓖 .A) (givenOf 𝓤 H 𝓜 𝓖) (𝓜 .mem) (𝓡 .run) (tablesOf 𝓤 H 𝓜 (tables 𝓤 H 𝓜 𝓡 code.env))
-    (cited 𝓤 H (Called 𝓤 H (𝓖 .A) (𝓜 .mem) (𝓡 .run)) 𝓜 𝓡 code.env #tracker·capture·after-capture g-def.routine code.calls-tracker·capture·after-capture (g-thm.met 𝓤 H 𝓜 𝓖 𝓡)))
+    (cited 𝓤 H (Called 𝓤 H (𝓖 .A) (𝓜 .mem) (𝓡 .run)) 𝓜 𝓡 code.env #tracker·capture·after-capture g-def.routine code.calls-signing·capture·after-capture (g-thm.met 𝓤 H 𝓜 𝓖 𝓡)))

@@ -36,7 +36,7 @@ use denote.Triple.Walked.{says, Stays, stay-none-slice, stay-none, walkOf, AllGo
 use denote.Triple.Clauses.{ensured, lasts}
 use denote.Exit.{yes}
 use Rattle.sheet.specs.Lines.{noLines, withAll, linesOf}
-use Rattle.tracker.specs.Capture.{captureSigned}
+use Rattle.signing.specs.Capture.{captureSigned}
 use Rattle.row.specs.declared.profile.Profile.{Profile}
 use Rattle.row.proofs.profile.Profile as D0
 use Rattle.row.proofs.profile.Profile.Laws as D0′
@@ -45,10 +45,10 @@ use Rattle.sheet.proofs.line.Line as D1
 use Rattle.sheet.specs.declared.lines.Sheet.{Sheet}
 use Rattle.sheet.proofs.lines.Sheet as D2
 use Rattle.sheet.proofs.lines.Sheet.Laws as D2′
-use Rattle.tracker.specs.declared.sign.Signed.{Signed}
-use Rattle.tracker.proofs.sign.Signed as D3
-use Rattle.tracker.proofs.sign.Signed.Laws as D3′
-use Rattle.tracker.proofs.Together.{capture-together}
+use Rattle.signing.specs.declared.sign.Signed.{Signed}
+use Rattle.signing.proofs.sign.Signed as D3
+use Rattle.signing.proofs.sign.Signed.Laws as D3′
+use Rattle.signing.proofs.Together.{capture-together}
 use Rattle.sheet.proofs.lines.no_lines as g1
 use Rattle.sheet.proofs.lines.no_lines.Symbol as g1-def
 use Rattle.sheet.proofs.lines.no_lines.Symbol.{name as #sheet·lines·no-lines}
@@ -57,10 +57,10 @@ use Rattle.host.proofs.list.with_lines as g2
 use Rattle.host.proofs.list.with_lines.Symbol as g2-def
 use Rattle.host.proofs.list.with_lines.Symbol.{name as #host·list·with-lines}
 use Rattle.host.proofs.list.with_lines.Met as g2-thm
-use Rattle.tracker.proofs.capture.capture_signs as g3
-use Rattle.tracker.proofs.capture.capture_signs.Symbol as g3-def
-use Rattle.tracker.proofs.capture.capture_signs.Symbol.{name as #tracker·capture·capture-signs}
-use Rattle.tracker.proofs.capture.capture_signs.Met as g3-thm
+use Rattle.signing.proofs.capture.capture_signs as g3
+use Rattle.signing.proofs.capture.capture_signs.Symbol as g3-def
+use Rattle.signing.proofs.capture.capture_signs.Symbol.{name as #tracker·capture·capture-signs}
+use Rattle.signing.proofs.capture.capture_signs.Met as g3-thm
 use Rattle.host.proofs.track.sign_capture.Key.{name as #host·track·sign-capture}
 use Rattle.host.proofs.track.sign_capture as f
 use Rattle.host.proofs.track.sign_capture.Statement as stated
@@ -180,4 +180,4 @@ sign-capture-spec 𝓤 H 𝓜 𝓖 𝓡 =
     (meets 𝓤 H (𝓖 .A) (givenOf 𝓤 H 𝓜 𝓖) (𝓜 .mem) (𝓡 .run) (tablesOf 𝓤 H 𝓜 (tables 𝓤 H 𝓜 𝓡 code.env))
     (cited 𝓤 H (Called-g1 𝓤 H (𝓖 .A) (𝓜 .mem) (𝓡 .run)) 𝓜 𝓡 code.env #sheet·lines·no-lines g1-def.routine code.calls-sheet·lines·no-lines (g1-thm.met 𝓤 H 𝓜 𝓖 𝓡))
     (cited 𝓤 H (Called-g2 𝓤 H (𝓖 .A) (𝓜 .mem) (𝓡 .run)) 𝓜 𝓡 code.env #host·list·with-lines g2-def.routine code.calls-host·list·with-lines (g2-thm.met 𝓤 H 𝓜 𝓖 𝓡))
-    (cited 𝓤 H (Called-g3 𝓤 H (𝓖 .A) (𝓜 .mem) (𝓡 .run)) 𝓜 𝓡 code.env #tracker·capture·capture-signs g3-def.routine code.calls-tracker·capture·capture-signs (g3-thm.met 𝓤 H 𝓜 𝓖 𝓡)))
+    (cited 𝓤 H (Called-g3 𝓤 H (𝓖 .A) (𝓜 .mem) (𝓡 .run)) 𝓜 𝓡 code.env #tracker·capture·capture-signs g3-def.routine code.calls-signing·capture·capture-signs (g3-thm.met 𝓤 H 𝓜 𝓖 𝓡)))

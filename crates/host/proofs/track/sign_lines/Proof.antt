@@ -35,7 +35,7 @@ use denote.Triple.Walked.{says, Stays, stay-none-slice, stay-none, walkOf, AllGo
 use denote.Triple.Clauses.{ensured, lasts}
 use denote.Exit.{yes}
 use Rattle.sheet.specs.Lines.{noLines, withAll, linesOf}
-use Rattle.tracker.specs.Sign.{signOff}
+use Rattle.signing.specs.Sign.{signOff}
 use Rattle.tracker.specs.declared.kept.Tracker.{Tracker}
 use Rattle.tracker.proofs.kept.Tracker as D0
 use Rattle.tracker.proofs.kept.Tracker.Laws as D0′
@@ -44,10 +44,10 @@ use Rattle.sheet.proofs.line.Line as D1
 use Rattle.sheet.specs.declared.lines.Sheet.{Sheet}
 use Rattle.sheet.proofs.lines.Sheet as D2
 use Rattle.sheet.proofs.lines.Sheet.Laws as D2′
-use Rattle.tracker.specs.declared.sign.Signed.{Signed}
-use Rattle.tracker.proofs.sign.Signed as D3
-use Rattle.tracker.proofs.sign.Signed.Laws as D3′
-use Rattle.tracker.proofs.Together.{sign-together}
+use Rattle.signing.specs.declared.sign.Signed.{Signed}
+use Rattle.signing.proofs.sign.Signed as D3
+use Rattle.signing.proofs.sign.Signed.Laws as D3′
+use Rattle.signing.proofs.Together.{sign-together}
 use Rattle.sheet.proofs.lines.no_lines as g1
 use Rattle.sheet.proofs.lines.no_lines.Symbol as g1-def
 use Rattle.sheet.proofs.lines.no_lines.Symbol.{name as #sheet·lines·no-lines}
@@ -56,10 +56,10 @@ use Rattle.host.proofs.list.with_lines as g2
 use Rattle.host.proofs.list.with_lines.Symbol as g2-def
 use Rattle.host.proofs.list.with_lines.Symbol.{name as #host·list·with-lines}
 use Rattle.host.proofs.list.with_lines.Met as g2-thm
-use Rattle.tracker.proofs.sign.sign_sheet as g3
-use Rattle.tracker.proofs.sign.sign_sheet.Symbol as g3-def
-use Rattle.tracker.proofs.sign.sign_sheet.Symbol.{name as #tracker·sign·sign-sheet}
-use Rattle.tracker.proofs.sign.sign_sheet.Met as g3-thm
+use Rattle.signing.proofs.sign.sign_sheet as g3
+use Rattle.signing.proofs.sign.sign_sheet.Symbol as g3-def
+use Rattle.signing.proofs.sign.sign_sheet.Symbol.{name as #tracker·sign·sign-sheet}
+use Rattle.signing.proofs.sign.sign_sheet.Met as g3-thm
 use Rattle.host.proofs.track.sign_lines.Key.{name as #host·track·sign-lines}
 use Rattle.host.proofs.track.sign_lines as f
 use Rattle.host.proofs.track.sign_lines.Statement as stated
@@ -173,4 +173,4 @@ sign-lines-spec 𝓤 H 𝓜 𝓖 𝓡 =
     (meets 𝓤 H (𝓖 .A) (givenOf 𝓤 H 𝓜 𝓖) (𝓜 .mem) (𝓡 .run) (tablesOf 𝓤 H 𝓜 (tables 𝓤 H 𝓜 𝓡 code.env))
     (cited 𝓤 H (Called-g1 𝓤 H (𝓖 .A) (𝓜 .mem) (𝓡 .run)) 𝓜 𝓡 code.env #sheet·lines·no-lines g1-def.routine code.calls-sheet·lines·no-lines (g1-thm.met 𝓤 H 𝓜 𝓖 𝓡))
     (cited 𝓤 H (Called-g2 𝓤 H (𝓖 .A) (𝓜 .mem) (𝓡 .run)) 𝓜 𝓡 code.env #host·list·with-lines g2-def.routine code.calls-host·list·with-lines (g2-thm.met 𝓤 H 𝓜 𝓖 𝓡))
-    (cited 𝓤 H (Called-g3 𝓤 H (𝓖 .A) (𝓜 .mem) (𝓡 .run)) 𝓜 𝓡 code.env #tracker·sign·sign-sheet g3-def.routine code.calls-tracker·sign·sign-sheet (g3-thm.met 𝓤 H 𝓜 𝓖 𝓡)))
+    (cited 𝓤 H (Called-g3 𝓤 H (𝓖 .A) (𝓜 .mem) (𝓡 .run)) 𝓜 𝓡 code.env #tracker·sign·sign-sheet g3-def.routine code.calls-signing·sign·sign-sheet (g3-thm.met 𝓤 H 𝓜 𝓖 𝓡)))

@@ -36,15 +36,15 @@ use denote.Triple.Table.{entered, cited}
 use denote.Triple.Walked.{says, Stays, stay-none-ref, stay-none-slice, walkOf, AllGo, goes-none-ref, goes-none-slice, Walks, ends-at, walked, walk-meets}
 use denote.Triple.Clauses.{ensured, lasts}
 use denote.Exit.{yes}
-use Rattle.tracker.specs.Sign.{signOff}
+use Rattle.signing.specs.Sign.{signOff}
 use Rattle.tracker.specs.declared.kept.Tracker.{Tracker}
 use Rattle.sheet.specs.declared.line.Line.{Line}
-use Rattle.tracker.specs.declared.sign.Signed.{Signed}
+use Rattle.signing.specs.declared.sign.Signed.{Signed}
 use Rattle.tracker.proofs.kept.Tracker as T
 use Rattle.tracker.proofs.kept.Tracker.Laws as T′
 use Rattle.sheet.proofs.line.Line as D1
-use Rattle.tracker.proofs.sign.Signed as D2
-use Rattle.tracker.proofs.sign.Signed.Laws as D2′
+use Rattle.signing.proofs.sign.Signed as D2
+use Rattle.signing.proofs.sign.Signed.Laws as D2′
 use Rattle.host.proofs.track.sign_lines as g
 use Rattle.host.proofs.track.sign_lines.Symbol as g-def
 use Rattle.host.proofs.track.sign_lines.Symbol.{name as #host·track·sign-lines}

@@ -1,6 +1,6 @@
 -- `message::read::denied_data` meets its contract.
 use mathlib.Core.Path.{ap}
-use Rattle.frame.specs.Fields.{dataOf}
+use Rattle.bytes.specs.Fields.{dataOf}
 use Rattle.message.specs.Message.{frameRead, isDenied}
 use mathlib.Core.Path.{sym, _∙_}
 use borrow.Author.Tests.{not-true, not-false}

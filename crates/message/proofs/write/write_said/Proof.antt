@@ -2,7 +2,7 @@
 use Prim.Native.Nat.{ℕ}
 use borrow.Author.Tests.{not-true, not-false}
 use Rattle.frame.specs.Frame.{frameOf}
-use Rattle.message.specs.Judge.{lengthOf}
+use Rattle.rules.specs.Judge.{lengthOf}
 use Rattle.message.specs.Write.{saidData}
 use mathlib.Core.Path.{sym, _∙_, ap}
 use Rattle.message.proofs.Writes.{said-refused, said-length, said-form, said-good}

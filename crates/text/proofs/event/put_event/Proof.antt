@@ -1,6 +1,6 @@
 -- `text::event::put_event` meets its contract.
 use mathlib.Core.Path.{sym}
-use Rattle.frame.specs.Fields.{bytesAt}
+use Rattle.bytes.specs.Fields.{bytesAt}
 use Rattle.listed.specs.Letters.{letters}
 use Rattle.listed.specs.Number.{decimal}
 use Rattle.listed.specs.Listing.{textLine, eventText}

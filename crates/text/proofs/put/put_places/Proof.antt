@@ -4,7 +4,7 @@ use mathlib.Core.List.{List, _++_}
 use Prim.Native.Nat.{ℕ, _+_, _-_, _<_}
 use native.Mathlib.Omega.{arith}
 use lib.ListN.{length, take, drop}
-use Rattle.frame.proofs.Tail.{tail-placed}
+use Rattle.bytes.proofs.Tail.{tail-placed}
 use Rattle.listed.specs.Number.{decimal}
 use Rattle.text.specs.Computed.{places, lastDigits}
 use Rattle.text.proofs.Digits.{digits-count, decimal-is, decimal-long, places-most}

@@ -1,0 +1,2 @@
+-- Proofs about the lines of the refusals.
+pub mod Judges

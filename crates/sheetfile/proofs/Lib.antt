@@ -1,0 +1,11 @@
+-- Proofs about files and runs, one answer for each function, and computed witnesses.
+pub mod Together
+pub mod Records
+pub mod Files
+pub mod Filled
+pub mod Rooms
+pub mod Trips
+pub mod Writes
+pub mod Plains
+pub mod Witness
+pub mod OneAnswer

@@ -1,0 +1,38 @@
+-- `sheetfile::plain::copy_file` meets its contract.
+use mathlib.Core.Path.{refl}
+use borrow.Author.Needs.{needs}
+use Rattle.sheetfile.proofs.plain.copy_file.Statement.{statement}
+use Rattle.sheetfile.proofs.plain.copy_file.Tie as tie
+
+profile-of-requires : tie.Need-profile-of-requires
+profile-of-requires c κs = search needs
+
+enum-known-profile : tie.Need-enum-known-profile
+enum-known-profile c = search needs
+
+copy-by-requires : tie.Need-copy-by-requires
+copy-by-requires c κs = search needs
+
+enum-known-number : tie.Need-enum-known-number
+enum-known-number c = search needs
+
+same-length : tie.Need-same-length
+same-length c = search needs
+
+returns : tie.Need-returns
+returns c = rw (← c .before .before .before .before .before .before .before .profile-of .ensures, c .before .before .before .before .before .profile .given .1) (c .before .before .copy-by .ensures)
+
+returns-2 : tie.Need-returns-2
+returns-2 c = rw (← c .before .before .before .profile-of .ensures, c .before .number .given .1) (refl, refl)
+
+pub copy-file-spec : {M : Type 1} → statement M
+copy-file-spec =
+    tie.close
+    (tie.spec
+    profile-of-requires
+    enum-known-profile
+    copy-by-requires
+    enum-known-number
+    same-length
+    returns
+    returns-2)

@@ -1,0 +1,22 @@
+-- Document 01, 'Sheet, sheet file and run': "The run of a sheet is 256 bytes of 00, then one 6-byte frame per line in order".
+use Prim.Native.Nat.{ℕ}
+use mathlib.Core.List.{List, [], _∷_, _++_}
+use lib.ListN.{replicate}
+use Rattle.frame.specs.Frame.{frameOf}
+use Rattle.frame.specs.declared.direction.Direction.the-variants as direction
+use Rattle.sheet.specs.Lines.{inOrder}
+use Rattle.sheet.specs.declared.line.Line.{Line}
+
+-- "256 bytes of 00"
+abbrev pub flush : ℕ
+flush = 256
+
+-- a line's frame is the command that sets its value
+abbrev pub lineFrame : Line → List ℕ
+lineFrame l = frameOf direction.Command (l .zone) (l .command) 0 (l .value ∷ [])
+
+abbrev pub framesOf : List Line → List ℕ
+framesOf ls = inOrder lineFrame ls
+
+unfoldable pub runOf : List Line → List ℕ
+runOf ls = replicate flush 0 ++ framesOf ls

@@ -1,0 +1,36 @@
+-- Promise: writing a sheet file or a run puts all of its bytes into their place and changes no other, or refuses and changes
+-- nothing: "the sheet's checks first, then 9". Of a refusal every field but its number and place is zero.
+use mathlib.Core.Path.{_≡_}
+use mathlib.Core.List.{List}
+use Prim.Native.Nat.{ℕ, _+_, _*_, _≤_, _<_}
+use lib.ListN.{length, take, drop}
+use Rattle.row.specs.declared.profile.Profile.{Profile}
+use Rattle.sheet.specs.Lines.{linesOf}
+use Rattle.sheet.specs.Check.{sheetVerdict}
+use Rattle.sheetfile.specs.File.{recordSize, fileOf, fileRead}
+use Rattle.sheetfile.specs.Run.{flush, runOf}
+use Rattle.sheetfile.specs.Written.{answered, left, fileLeft, sheetWrittenNumber, sheetWrittenCount}
+use Rattle.sheet.specs.declared.line.Line.{Line}
+use Rattle.sheet.specs.declared.check.Verdict.{Verdict}
+use Rattle.sheet.specs.declared.check.Verdict.the-variants as verdict
+use Rattle.sheetfile.specs.declared.write.SheetWritten.the-variants.{Bytes, Refused}
+
+-- of any bytes that are written for a sheet of this verdict
+pub record WrittenPromise (v : Verdict) (buf : List ℕ) (at : ℕ) (bytes : List ℕ) : Type 0 where
+  pub checks : (n i : ℕ) → v ≡ verdict.Refused n i → answered v buf at bytes ≡ Refused n i
+  pub past : v ≡ verdict.Accepted → length buf < at → answered v buf at bytes ≡ Refused 9 0
+  pub few : v ≡ verdict.Accepted → at ≤ length buf → length buf < at + length bytes → answered v buf at bytes ≡ Refused 9 0
+  pub kept : (sheetWrittenNumber (answered v buf at bytes) ≡ 0 → ⊥) → left v buf at bytes ≡ buf
+  pub zero : (sheetWrittenNumber (answered v buf at bytes) ≡ 0 → ⊥) → sheetWrittenCount (answered v buf at bytes) ≡ 0
+  pub said : v ≡ verdict.Accepted → at + length bytes ≤ length buf → answered v buf at bytes ≡ Bytes (length bytes)
+  pub there : v ≡ verdict.Accepted → at + length bytes ≤ length buf → take (length bytes) (drop at (left v buf at bytes)) ≡ bytes
+  pub before : take at (left v buf at bytes) ≡ take at buf
+  pub after : drop (at + length bytes) (left v buf at bytes) ≡ drop (at + length bytes) buf
+
+-- "256 + 6n bytes", and six bytes a line; a file that was written reads back from its place in the buffer
+pub record SizePromise (profile : Profile) (ls : List Line) : Type 0 where
+  pub run : length (runOf ls) ≡ flush + recordSize * length ls
+  pub file : length (fileOf profile ls) ≡ recordSize * length ls
+  pub back : (buf : List ℕ) (at : ℕ) → sheetVerdict profile ls ≡ verdict.Accepted → at + recordSize * length ls ≤ length buf
+      → (fileRead profile (take (recordSize * length ls) (drop at (fileLeft profile ls buf at))) .verdict ≡ verdict.Accepted)
+      × (linesOf (fileRead profile (take (recordSize * length ls) (drop at (fileLeft profile ls buf at))) .sheet) ≡ ls)

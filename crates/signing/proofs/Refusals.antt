@@ -1,0 +1,68 @@
+-- A refused answer changes nothing, and a refused sheet signs nothing off.
+use mathlib.Core.Path.{_≡_, refl, ap, subst}
+use mathlib.Core.Bool.{Bool, true, false, cond}
+use mathlib.Core.List.{List, [], _∷_}
+use mathlib.Core.Logic.{inl, inr}
+use Prim.Native.Nat.{ℕ, _≤_}
+use native.Mathlib.Omega.{arith}
+use lib.ListN.{getD}
+use Rattle.frame.specs.Refusal.{Line}
+use Rattle.bytes.specs.Raw.{tooLong}
+use Rattle.frame.specs.RulePromise.{First}
+use Rattle.frame.specs.declared.direction.Direction.the-variants.{Answer}
+use Rattle.row.specs.declared.profile.Profile.{Profile}
+use Rattle.rules.specs.Judge.{judgeLines}
+use Rattle.message.specs.Message.{isDenial, wrongCode, readLines}
+use Rattle.message.specs.Numbers.{readingNumber, readingPaper, zeros}
+use Rattle.message.specs.declared.read.Reading.{Reading}
+use Rattle.message.specs.declared.read.Reading.the-variants as reading
+use Rattle.message.proofs.Order.{order-promise}
+use Rattle.tracker.specs.Feed.{heard}
+use Rattle.tracker.specs.FeedPromise.{answered}
+use Rattle.signing.specs.Numbers.{signedNumber, signedPlace, signedYes, captureNumber}
+use Rattle.signing.specs.RefusalPromise.{RefusalPromise}
+use Rattle.tracker.specs.declared.kept.Tracker.{Tracker}
+use Rattle.signing.specs.declared.capture.CaptureFed.{CaptureFed}
+use Rattle.signing.proofs.Signs.{sign-promise}
+use Rattle.signing.proofs.CaptureSigns.{fed-long, capture-promise}
+
+-- lines whose numbers are 1 to 5, and so is that of the first that applies
+abbrev OneToFive : ℕ → Type 0
+OneToFive n = (1 ≤ n) × (n ≤ 5)
+
+abbrev Numbered : List Line → Type 0
+Numbered [] = Unit {0}
+Numbered (l ∷ ls) = OneToFive (l .number) × Numbered ls
+
+first-numbered : (ls : List Line) (n : ℕ) → Numbered ls → First ls n → OneToFive n
+first-numbered [] n w f = absurd f
+first-numbered (l ∷ ls) n w (inl f) = subst OneToFive (f .1) (w .0)
+first-numbered (l ∷ ls) n w (inr f) = first-numbered ls n (w .1) (f .1)
+
+lines-numbered : (profile : Profile) (zone command ac : ℕ) (body : List ℕ) → Numbered (readLines profile Answer zone command ac body)
+lines-numbered profile zone command ac body = go (isDenial ac)
+  where
+    go : (t : Bool) → Numbered (wrongCode ac ∷ cond t (tooLong body ∷ []) (judgeLines profile Answer zone command body))
+    go true = ((omega arith, omega arith), ((omega arith, omega arith), tt))
+    go false = ((omega arith, omega arith), ((omega arith, omega arith), ((omega arith, omega arith), ((omega arith, omega arith), ((omega arith, omega arith), ((omega arith, omega arith), tt))))))
+
+-- a refused answer, whatever the first byte of its data is
+kept : (t : Tracker) (r : Reading) (b : ℕ) (body : List ℕ) → (readingNumber r ≡ 0 → ⊥) → (heard t r b ≡ t) × (readingPaper (heard t r b .profile) r body ≡ zeros)
+kept t (reading.Message m) b body e = absurd (e refl)
+kept t (reading.Refused n) b body e = (refl, refl)
+
+pub refusal-promise : (t : Tracker) → RefusalPromise t
+refusal-promise t = record {
+  passed = λ zone command ac body. refl;
+  numbered = λ zone command ac body n e.
+      first-numbered (readLines (t .profile) Answer zone command ac body) n (lines-numbered (t .profile) zone command ac body)
+      (order-promise (t .profile) Answer zone command ac body .applies n e);
+  kept = λ zone command ac body. kept t (answered t zone command ac body) (getD body 0 0) body;
+  sheet = λ ls n i e.
+      let r = sign-promise t ls .refused n i e in
+      (ap signedNumber r, ap signedPlace r, ap signedYes r);
+  long = λ capture h. let r = fed-long t capture h in (ap (λ (f : CaptureFed). captureNumber (f .answer)) r, ap (λ (f : CaptureFed). f .tracker) r);
+  long-signed = λ profile ls capture h.
+      let r = capture-promise profile ls capture .long h in
+      (ap signedNumber r, ap signedPlace r, ap signedYes r);
+}

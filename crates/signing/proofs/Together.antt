@@ -1,0 +1,23 @@
+-- Lines brought together by value are signed off as the list that they are.
+use mathlib.Core.Path.{_≡_, refl, ap}
+use mathlib.Core.List.{List, [], _∷_}
+use Prim.Native.Nat.{ℕ}
+use Rattle.frame.specs.Refusal.{ruled}
+use Rattle.row.specs.declared.profile.Profile.{Profile}
+use Rattle.sheet.specs.Lines.{noLines, withAll, linesOf}
+use Rattle.sheet.specs.declared.line.Line.{Line}
+use Rattle.sheetfile.proofs.Together.{by-verdict}
+use Rattle.tracker.specs.Kept.{fresh}
+use Rattle.tracker.specs.Feed.{fedAll}
+use Rattle.signing.specs.Sign.{allHold, signedBy, signOff}
+use Rattle.signing.specs.Capture.{broughtBy, longCapture, captureSigned}
+use Rattle.tracker.specs.declared.kept.Tracker.{Tracker}
+use Rattle.signing.specs.declared.sign.Signed.{Signed}
+use Rattle.signing.specs.declared.sign.Signed.the-variants as signed
+
+pub sign-together : (t : Tracker) (ls : List Line) → signOff t (linesOf (withAll noLines ls)) ≡ signOff t ls
+sign-together t ls = by-verdict (λ v xs. signedBy v (allHold t xs)) (λ n i xs ys. refl) (t .profile) ls
+
+pub capture-together : (profile : Profile) (ls : List Line) (capture : List ℕ) → captureSigned profile (linesOf (withAll noLines ls)) capture ≡ captureSigned profile ls capture
+capture-together profile ls capture =
+    ap (λ (s : Signed). ruled (longCapture capture ∷ []) (λ n. signed.Refused n 0) s) (sign-together (fedAll (fresh profile) (broughtBy capture)) ls)

@@ -1,0 +1,118 @@
+-- Answers that make cells known, and answers that change nothing, computed from the definitions.
+use mathlib.Core.Path.{_≡_, refl}
+use mathlib.Core.List.{List, [], _∷_, _++_}
+use Prim.Native.Nat.{ℕ}
+use Rattle.frame.specs.Reader.{answerTo, takenAfter, answers, takenBy}
+use Rattle.frame.specs.Capture.{eventsTold, eventsFrom}
+use Rattle.bytes.specs.Fields.{isFrame, bytesAt}
+use Rattle.row.specs.Table.{table, firstRow, firstPlace}
+use Rattle.row.specs.declared.profile.Profile.the-variants.{A, S}
+use Rattle.rules.specs.Judge.{rowJudged}
+use Rattle.message.specs.Message.{readOf}
+use Rattle.sheet.specs.Line.{isLegal, isRepeated}
+use Rattle.sheet.specs.Check.{lowestFault, sheetVerdict}
+use Rattle.sheet.specs.declared.line.Line.{Line}
+use Rattle.tracker.specs.Cell.{cellOf}
+use Rattle.tracker.specs.Kept.{fresh, keptIn}
+use Rattle.tracker.specs.Feed.{after, Brought, fedAll}
+use Rattle.signing.specs.Sign.{allHold, signOff}
+use Rattle.signing.specs.Capture.{broughtAll, captureSigned}
+use Rattle.tracker.specs.declared.cell.Cell.the-variants.{At}
+use Rattle.tracker.specs.declared.kept.Tracker.{Tracker}
+use Rattle.tracker.specs.declared.kept.Kept.the-variants.{Value, Unknown, NoCell}
+use Rattle.signing.specs.declared.sign.Signed.the-variants.{Yes, No, Refused}
+
+abbrev levelled : Tracker
+levelled = after (fresh A) 2 0x39 0x00 (0xFF ∷ [])
+
+pub has-cell : cellOf A 2 0x39 ≡ At 16
+unfolding cellOf rowJudged firstRow firstPlace table
+has-cell = refl
+
+-- FF is a value like any other; the zone beside it stays unknown
+pub status-known : keptIn levelled 2 0x39 ≡ Value 0xFF
+unfolding keptIn cellOf readOf rowJudged firstRow firstPlace table
+status-known = refl
+
+pub beside-unknown : keptIn levelled 1 0x39 ≡ Unknown
+unfolding keptIn cellOf readOf rowJudged firstRow firstPlace table
+beside-unknown = refl
+
+-- the last answer counts, a denial changes nothing, and a refused answer changes nothing
+pub last-known : keptIn (after levelled 2 0x39 0x00 (0x05 ∷ [])) 2 0x39 ≡ Value 0x05
+unfolding keptIn cellOf readOf rowJudged firstRow firstPlace table
+last-known = refl
+
+pub denied-kept : keptIn (after levelled 2 0x39 0x85 (0x05 ∷ [])) 2 0x39 ≡ Value 0xFF
+unfolding keptIn cellOf readOf rowJudged firstRow firstPlace table
+denied-kept = refl
+
+pub refused-kept : keptIn (after levelled 2 0x39 0x00 (0x0B ∷ [])) 2 0x39 ≡ Value 0xFF
+unfolding keptIn cellOf readOf rowJudged firstRow firstPlace table
+refused-kept = refl
+
+-- S 0F has no cell
+pub direct-none : keptIn (after (fresh S) 1 0x0F 0x00 (0x01 ∷ 0x01 ∷ [])) 1 0x0F ≡ NoCell
+unfolding keptIn cellOf readOf rowJudged firstRow firstPlace table
+direct-none = refl
+
+-- a history whose answers show every line is signed off, and so it is after a denial; one whose last answer to one line shows
+-- another value is not; a line that no answer showed is not
+abbrev line : ℕ → ℕ → ℕ → Line
+line zone command value = record { zone = zone; command = command; value = value }
+
+abbrev answer : ℕ → ℕ → ℕ → ℕ → Brought
+answer zone command ac value = record { zone = zone; command = command; answer = ac; body = value ∷ [] }
+
+abbrev two : List Line
+two = line 2 0x39 0xFF ∷ line 1 0x38 0x02 ∷ []
+
+abbrev history : List Brought
+history = answer 1 0x38 0x00 0x01 ∷ answer 2 0x39 0x00 0xFF ∷ answer 1 0x38 0x00 0x02 ∷ []
+
+abbrev heard : List Brought → Tracker
+heard fs = fedAll (fresh A) fs
+
+pub signed-yes : signOff (heard history) two ≡ Yes
+unfolding fedAll allHold keptIn cellOf readOf rowJudged firstRow firstPlace table sheetVerdict lowestFault isLegal isRepeated
+signed-yes = refl
+
+pub denied-yes : signOff (heard (history ++ answer 1 0x38 0x85 0x01 ∷ [])) two ≡ Yes
+unfolding fedAll allHold keptIn cellOf readOf rowJudged firstRow firstPlace table sheetVerdict lowestFault isLegal isRepeated
+denied-yes = refl
+
+pub stale-no : signOff (heard (history ++ answer 1 0x38 0x00 0x01 ∷ [])) two ≡ No
+unfolding fedAll allHold keptIn cellOf readOf rowJudged firstRow firstPlace table sheetVerdict lowestFault isLegal isRepeated
+stale-no = refl
+
+pub unknown-no : signOff (heard history) (two ++ line 1 0x39 0xFF ∷ []) ≡ No
+unfolding fedAll allHold keptIn cellOf readOf rowJudged firstRow firstPlace table sheetVerdict lowestFault isLegal isRepeated
+unknown-no = refl
+
+-- the sheet's refusal; and a sheet of no lines
+pub signed-refused : signOff (heard history) (line 2 0x39 0xFF ∷ line 2 0x39 0x0B ∷ []) ≡ Refused 7 1
+unfolding fedAll allHold keptIn cellOf readOf rowJudged firstRow firstPlace table sheetVerdict lowestFault isLegal isRepeated
+signed-refused = refl
+
+pub none-signed : (t : Tracker) → signOff t [] ≡ Yes
+unfolding allHold sheetVerdict lowestFault
+none-signed t = refl
+
+-- by a capture: noise, the answers, a broken stretch and a denial that change nothing, and bytes that are pending
+abbrev whole : List ℕ
+whole =
+    0x00
+    ∷ 0x21 ∷ 0x02 ∷ 0x39 ∷ 0x00 ∷ 0x01 ∷ 0xFF ∷ 0x0D
+    ∷ 0x21 ∷ 0x01 ∷ 0x38 ∷ 0x00 ∷ 0x01 ∷ 0x02 ∷ 0x0D
+    ∷ 0x21 ∷ 0x01 ∷ 0x38 ∷ 0x00 ∷ 0x01 ∷ 0x01 ∷ 0x00
+    ∷ 0x21 ∷ 0x01 ∷ 0x38 ∷ 0x85 ∷ 0x01 ∷ 0x01 ∷ 0x0D
+    ∷ []
+
+pub capture-yes : captureSigned A two (whole ++ 0x21 ∷ 0x01 ∷ []) ≡ Yes
+unfolding fedAll allHold keptIn cellOf readOf rowJudged firstRow firstPlace table sheetVerdict lowestFault isLegal isRepeated broughtAll eventsFrom eventsTold answers takenBy answerTo takenAfter bytesAt isFrame
+capture-yes = refl
+
+-- one answer more that shows another value
+pub capture-no : captureSigned A two (whole ++ 0x21 ∷ 0x01 ∷ 0x38 ∷ 0x00 ∷ 0x01 ∷ 0x01 ∷ 0x0D ∷ []) ≡ No
+unfolding fedAll allHold keptIn cellOf readOf rowJudged firstRow firstPlace table sheetVerdict lowestFault isLegal isRepeated broughtAll eventsFrom eventsTold answers takenBy answerTo takenAfter bytesAt isFrame
+capture-no = refl

@@ -1,0 +1,39 @@
+-- Promise: a sheet that is not accepted gives its refusal and no sign-off; an accepted one is signed off exactly when every line's
+-- cell is known and equal; and that is exactly when each line's value is that of the last status answer of its zone and row, among
+-- the answers fed in since the tracker was made new.
+use mathlib.Core.Path.{_≡_}
+use mathlib.Core.List.{List, [], _∷_}
+use Prim.Native.Nat.{ℕ}
+use Rattle.row.specs.declared.profile.Profile.{Profile}
+use Rattle.sheet.specs.Check.{sheetVerdict}
+use Rattle.sheet.specs.declared.line.Line.{Line}
+use Rattle.sheet.specs.declared.check.Verdict.the-variants as verdict
+use Rattle.tracker.specs.Kept.{fresh, keptIn}
+use Rattle.tracker.specs.Feed.{Brought, fedAll}
+use Rattle.signing.specs.Sign.{signOff}
+use Rattle.tracker.specs.HistoryPromise.{Last}
+use Rattle.tracker.specs.declared.kept.Tracker.{Tracker}
+use Rattle.tracker.specs.declared.kept.Kept.the-variants.{Value}
+use Rattle.signing.specs.declared.sign.Signed.the-variants.{Yes, No, Refused}
+
+-- every line's cell is known and equal
+abbrev pub AllHold : Tracker → List Line → Type 0
+AllHold t [] = Unit {0}
+AllHold t (l ∷ ls) = (keptIn t (l .zone) (l .command) ≡ Value (l .value)) × AllHold t ls
+
+-- every line's value is that of the last status answer of its zone and row
+abbrev pub AllAnswered : Profile → List Brought → List Line → Type 0
+AllAnswered profile fs [] = Unit {0}
+AllAnswered profile fs (l ∷ ls) = Last profile (l .zone) (l .command) fs (l .value) × AllAnswered profile fs ls
+
+pub record SignPromise (t : Tracker) (ls : List Line) : Type 0 where
+  pub refused : (n i : ℕ) → sheetVerdict (t .profile) ls ≡ verdict.Refused n i → signOff t ls ≡ Refused n i
+  pub yes : sheetVerdict (t .profile) ls ≡ verdict.Accepted → AllHold t ls → signOff t ls ≡ Yes
+  pub no : sheetVerdict (t .profile) ls ≡ verdict.Accepted → (AllHold t ls → ⊥) → signOff t ls ≡ No
+  pub only : signOff t ls ≡ Yes → (sheetVerdict (t .profile) ls ≡ verdict.Accepted) × AllHold t ls
+
+-- after any answers
+pub record SignedPromise (profile : Profile) (fs : List Brought) (ls : List Line) : Type 0 where
+  pub answered : signOff (fedAll (fresh profile) fs) ls ≡ Yes → AllAnswered profile fs ls
+  pub signed : sheetVerdict profile ls ≡ verdict.Accepted → AllAnswered profile fs ls → signOff (fedAll (fresh profile) fs) ls ≡ Yes
+  pub unsigned : sheetVerdict profile ls ≡ verdict.Accepted → (AllAnswered profile fs ls → ⊥) → signOff (fedAll (fresh profile) fs) ls ≡ No
