@@ -1,15 +1,51 @@
--- The first row that answers to a letter and a command, and its place in the table.
-use mathlib.Core.Path.{_≡_, refl, subst}
+-- The table of numbers that the code has is the table of rows, and a walk along it finds the first row.
+use mathlib.Core.Path.{_≡_, refl, ap, sym, _∙_, subst}
 use mathlib.Core.Bool.{Bool, true, false, cond, _&&_}
-use mathlib.Core.List.{List, [], _∷_}
-use Prim.Native.Nat.{ℕ, suc, _≤_, _<_}
+use mathlib.Core.List.{List, [], _∷_, map}
+use Prim.Native.Nat.{ℕ, suc, _+_, _≤_, _<_}
+use native.Mathlib.Nat.{add-suc, suc-add}
+use native.Mathlib.Numerals.{add-one}
 use native.Mathlib.Omega.{arith}
-use borrow.Author.Tests.{eqb-true}
+use borrow.Author.Tests.{eq-eqb, ne-eqb, eqb-true}
 use lib.Dec.{eqb}
-use lib.ListN.{length, getD}
+use lib.ListN.{length, drop, getD, drop-of-length-le, List·getD-map}
+use lib.Seq.{drop-cons}
 use Rattle.row.specs.Table.{table, firstRow, firstPlace}
+use Rattle.row.specs.Computed.{rowFrom}
 use Rattle.row.specs.declared.table.Row.{Row}
 use Rattle.row.specs.declared.table.Found.the-variants as found
+
+-- the numbers, as the code has them
+unfoldable pub numbers : List (List ℕ)
+numbers =
+    (0x41 ∷ 0x0F ∷ 1 ∷ 0 ∷ 0x00 ∷ 0x01 ∷ 1 ∷ 0 ∷ 1 ∷ 0 ∷ 0 ∷ 0 ∷ 0 ∷ 0 ∷ [])
+    ∷ (0x41 ∷ 0x10 ∷ 1 ∷ 0 ∷ 0x00 ∷ 0x08 ∷ 1 ∷ 0 ∷ 1 ∷ 0 ∷ 0 ∷ 0 ∷ 0 ∷ 0 ∷ [])
+    ∷ (0x41 ∷ 0x11 ∷ 1 ∷ 0 ∷ 0x00 ∷ 0x05 ∷ 1 ∷ 0 ∷ 1 ∷ 0 ∷ 0 ∷ 0 ∷ 0 ∷ 0 ∷ [])
+    ∷ (0x41 ∷ 0x37 ∷ 3 ∷ 0 ∷ 0x00 ∷ 0x02 ∷ 1 ∷ 0 ∷ 1 ∷ 2 ∷ 0 ∷ 0 ∷ 0 ∷ 0 ∷ [])
+    ∷ (0x41 ∷ 0x38 ∷ 3 ∷ 1 ∷ 0x00 ∷ 0x02 ∷ 1 ∷ 0 ∷ 1 ∷ 0 ∷ 0 ∷ 0 ∷ 0 ∷ 1 ∷ [])
+    ∷ (0x41 ∷ 0x39 ∷ 3 ∷ 2 ∷ 0x00 ∷ 0x0A ∷ 0xFF ∷ 0xFF ∷ 1 ∷ 1 ∷ 0 ∷ 0 ∷ 1 ∷ 1 ∷ [])
+    ∷ (0x41 ∷ 0x3A ∷ 3 ∷ 2 ∷ 0x00 ∷ 0x0F ∷ 0x81 ∷ 0x8F ∷ 1 ∷ 1 ∷ 0 ∷ 1 ∷ 0 ∷ 1 ∷ [])
+    ∷ (0x41 ∷ 0x44 ∷ 3 ∷ 0 ∷ 0x00 ∷ 0x08 ∷ 1 ∷ 0 ∷ 1 ∷ 0 ∷ 0 ∷ 0 ∷ 0 ∷ 0 ∷ [])
+    ∷ (0x41 ∷ 0x45 ∷ 3 ∷ 2 ∷ 0x00 ∷ 0x00 ∷ 0x81 ∷ 0x8A ∷ 1 ∷ 1 ∷ 0 ∷ 1 ∷ 0 ∷ 1 ∷ [])
+    ∷ (0x41 ∷ 0x46 ∷ 3 ∷ 2 ∷ 0x00 ∷ 0x0A ∷ 0x81 ∷ 0x8A ∷ 1 ∷ 1 ∷ 0 ∷ 1 ∷ 0 ∷ 1 ∷ [])
+    ∷ (0x53 ∷ 0x0D ∷ 2 ∷ 1 ∷ 0x00 ∷ 0x63 ∷ 1 ∷ 0 ∷ 1 ∷ 1 ∷ 0 ∷ 0 ∷ 0 ∷ 1 ∷ [])
+    ∷ (0x53 ∷ 0x0E ∷ 2 ∷ 1 ∷ 0x00 ∷ 0x01 ∷ 1 ∷ 0 ∷ 1 ∷ 3 ∷ 0 ∷ 0 ∷ 0 ∷ 1 ∷ [])
+    ∷ (0x53 ∷ 0x0F ∷ 1 ∷ 0 ∷ 0x01 ∷ 0x03 ∷ 0x05 ∷ 0x06 ∷ 1 ∷ 0 ∷ 1 ∷ 0 ∷ 0 ∷ 0 ∷ [])
+    ∷ (0x53 ∷ 0x37 ∷ 2 ∷ 1 ∷ 0x00 ∷ 0x06 ∷ 0xA0 ∷ 0xA0 ∷ 1 ∷ 0 ∷ 0 ∷ 0 ∷ 0 ∷ 0 ∷ [])
+    ∷ (0x53 ∷ 0x3B ∷ 2 ∷ 0 ∷ 0x00 ∷ 0x0C ∷ 0x81 ∷ 0x8C ∷ 1 ∷ 0 ∷ 0 ∷ 1 ∷ 0 ∷ 0 ∷ [])
+    ∷ (0x53 ∷ 0x44 ∷ 2 ∷ 0 ∷ 0x00 ∷ 0x0A ∷ 1 ∷ 0 ∷ 1 ∷ 0 ∷ 0 ∷ 0 ∷ 0 ∷ 0 ∷ [])
+    ∷ (0x53 ∷ 0x5A ∷ 2 ∷ 0 ∷ 0x00 ∷ 0x01 ∷ 1 ∷ 0 ∷ 1 ∷ 0 ∷ 0 ∷ 0 ∷ 0 ∷ 0 ∷ [])
+    ∷ (0x53 ∷ 0x5B ∷ 2 ∷ 2 ∷ 0x00 ∷ 0x00 ∷ 0x02 ∷ 0x09 ∷ 1 ∷ 0 ∷ 0 ∷ 0 ∷ 0 ∷ 1 ∷ [])
+    ∷ (0x53 ∷ 0x5C ∷ 2 ∷ 1 ∷ 0x00 ∷ 0x63 ∷ 1 ∷ 0 ∷ 1 ∷ 0 ∷ 0 ∷ 0 ∷ 0 ∷ 1 ∷ [])
+    ∷ []
+
+-- the two tables agree, over all of their entries
+pub agree : map rowFrom numbers ≡ table
+unfolding numbers table
+agree = refl
+
+pub row-at : (i : ℕ) → getD table i (rowFrom []) ≡ rowFrom (getD numbers i [])
+row-at i = ap (λ (rs : List Row). getD rs i (rowFrom [])) (sym agree) ∙ List·getD-map rowFrom numbers i []
 
 both : (s t : Bool) → s && t ≡ true → t ≡ true
 both true t e = e
@@ -58,6 +94,28 @@ none-at (r ∷ rs) letter command h = go (isAt r letter command) refl (none-at r
   go false e next =
       let place : firstPlace (r ∷ rs) letter command ≡ suc (firstPlace rs letter command) = rw e in
       rw e (next (omega (arith, place)))
+
+module _ (rs : List Row) (letter command i : ℕ) (d : Row) where
+  pub hit : i < length rs → getD rs i d .profile ≡ letter → getD rs i d .code ≡ command → firstPlace (drop i rs) letter command ≡ 0
+  unfolding firstPlace
+  hit h e f = rw (drop-cons rs i d, eq-eqb _ _ e, eq-eqb _ _ f)
+
+  other : i < length rs → isAt (getD rs i d) letter command ≡ false
+      → i + firstPlace (drop i rs) letter command ≡ (i + 1) + firstPlace (drop (i + 1) rs) letter command
+  unfolding firstPlace
+  other h e = rw (add-one, drop-cons rs i d, e, add-suc, suc-add)
+
+  pub miss-profile : i < length rs → (getD rs i d .profile ≡ letter → ⊥)
+      → i + firstPlace (drop i rs) letter command ≡ (i + 1) + firstPlace (drop (i + 1) rs) letter command
+  miss-profile h e = other h (rw (ne-eqb _ _ e))
+
+  pub miss-code : i < length rs → getD rs i d .profile ≡ letter → (getD rs i d .code ≡ command → ⊥)
+      → i + firstPlace (drop i rs) letter command ≡ (i + 1) + firstPlace (drop (i + 1) rs) letter command
+  miss-code h e f = other h (rw (eq-eqb _ _ e, ne-eqb _ _ f))
+
+  pub passed : length rs ≤ i → firstPlace (drop i rs) letter command ≡ 0
+  unfolding firstPlace
+  passed h = rw (drop-of-length-le rs {i = i} h)
 
 -- what holds of every row holds of the one that is found
 abbrev pub Each : (Row → Type 0) → List Row → Type 0

@@ -1,10 +1,10 @@
 use crate::profile::Profile;
+use crate::profile::letter_of;
 ghost use mathlib.Core.Path.{_≡_};
 ghost use mathlib.Core.List.{[]};
 ghost use Prim.Native.Nat.{_<_};
 ghost use lib.ListN.{getD};
 ghost use Rattle.row.specs.Table.{table, rowOf, placeOf};
-ghost use Rattle.row.specs.declared.profile.Profile.the-variants as profile;
 ghost use Rattle.row.specs.Computed.{codesIf, rowFrom};
 
 // Codes from low to high; none where low is above high.
@@ -49,6 +49,31 @@ pub enum Found {
     NoRow,
 }
 
+// A line for each row: profile, code, zones; which of its answer codes a command sets (0 none, 1 those
+// of the first range, 2 of both); the answer codes, from and to, twice (1 to 0: none); request; F1 and
+// F2 (1 up and down, 2 on and off) or 02 (3 toggle); pair; signed; off; sheet.
+const ROWS: [[u8; 14]; 19] = [
+    [b'A', 0x0F, 1, 0, 0x00, 0x01, 1, 0, 1, 0, 0, 0, 0, 0], // direct
+    [b'A', 0x10, 1, 0, 0x00, 0x08, 1, 0, 1, 0, 0, 0, 0, 0], // decode 2ch
+    [b'A', 0x11, 1, 0, 0x00, 0x05, 1, 0, 1, 0, 0, 0, 0, 0], // decode MCH
+    [b'A', 0x37, 3, 0, 0x00, 0x02, 1, 0, 1, 2, 0, 0, 0, 0], // room EQ
+    [b'A', 0x38, 3, 1, 0x00, 0x02, 1, 0, 1, 0, 0, 0, 0, 1], // Dolby Volume
+    [b'A', 0x39, 3, 2, 0x00, 0x0A, 0xFF, 0xFF, 1, 1, 0, 0, 1, 1], // Leveller
+    [b'A', 0x3A, 3, 2, 0x00, 0x0F, 0x81, 0x8F, 1, 1, 0, 1, 0, 1], // calibration offset, dB
+    [b'A', 0x44, 3, 0, 0x00, 0x08, 1, 0, 1, 0, 0, 0, 0, 0], // sample rate
+    [b'A', 0x45, 3, 2, 0x00, 0x00, 0x81, 0x8A, 1, 1, 0, 1, 0, 1], // sub trim, quarter dB
+    [b'A', 0x46, 3, 2, 0x00, 0x0A, 0x81, 0x8A, 1, 1, 0, 1, 0, 1], // picture brightness
+    [b'S', 0x0D, 2, 1, 0x00, 0x63, 1, 0, 1, 1, 0, 0, 0, 1], // volume
+    [b'S', 0x0E, 2, 1, 0x00, 0x01, 1, 0, 1, 3, 0, 0, 0, 1], // mute
+    [b'S', 0x0F, 1, 0, 0x01, 0x03, 0x05, 0x06, 1, 0, 1, 0, 0, 0], // direct
+    [b'S', 0x37, 2, 1, 0x00, 0x06, 0xA0, 0xA0, 1, 0, 0, 0, 0, 0], // room EQ
+    [b'S', 0x3B, 2, 0, 0x00, 0x0C, 0x81, 0x8C, 1, 0, 0, 1, 0, 0], // balance
+    [b'S', 0x44, 2, 0, 0x00, 0x0A, 1, 0, 1, 0, 0, 0, 0, 0], // sample rate
+    [b'S', 0x5A, 2, 0, 0x00, 0x01, 1, 0, 1, 0, 0, 0, 0, 0], // input detect
+    [b'S', 0x5B, 2, 2, 0x00, 0x00, 0x02, 0x09, 1, 0, 0, 0, 0, 1], // processor input
+    [b'S', 0x5C, 2, 1, 0x00, 0x63, 1, 0, 1, 0, 0, 0, 0, 1], // processor volume
+];
+
 // How many rows the table has.
 pub const ROW_COUNT: usize = 19;
 
@@ -67,75 +92,48 @@ pub fn find_row(profile: Profile, command: u8) -> Found
 pub fn row_place(profile: Profile, command: u8) -> usize
     ensures { λ r. ⌜ r ≡ placeOf profile command ⌝ }
 {
-    match profile {
-        Profile::A => place_in_a(command),
-        Profile::S => place_in_s(command),
+    let letter = letter_of(profile);
+    let rows = ROWS;
+    let mut i = 0;
+    while i < 19 {
+        let numbers = rows[i];
+        if numbers[0] == letter {
+            if numbers[1] == command {
+                return i;
+            }
+        }
+        i += 1;
     }
+    ROW_COUNT
 }
 
-fn place_in_a(command: u8) -> usize
-    ensures { λ r. ⌜ r ≡ placeOf profile.A command ⌝ }
-{
-    match command {
-        0x0F => 0,
-        0x10 => 1,
-        0x11 => 2,
-        0x37 => 3,
-        0x38 => 4,
-        0x39 => 5,
-        0x3A => 6,
-        0x44 => 7,
-        0x45 => 8,
-        0x46 => 9,
-        _ => ROW_COUNT,
-    }
-}
-
-fn place_in_s(command: u8) -> usize
-    ensures { λ r. ⌜ r ≡ placeOf profile.S command ⌝ }
-{
-    match command {
-        0x0D => 10,
-        0x0E => 11,
-        0x0F => 12,
-        0x37 => 13,
-        0x3B => 14,
-        0x44 => 15,
-        0x5A => 16,
-        0x5B => 17,
-        0x5C => 18,
-        _ => ROW_COUNT,
-    }
-}
-
-// A line of the table, one for each row: profile, code, zones; which of its answer codes a command sets (0 none, 1
-// those of the first range, 2 of both); the answer codes, from and to, twice (1 to 0: none); request; F1 and F2 (1 up
-// and down, 2 on and off) or 02 (3 toggle); pair; signed; off; sheet. Each line stands in the code: a table in one array
-// would be built in memory at each call.
+// A line of the table. The places are written out, so that the compiler takes each line as a constant: where it does
+// not know the place it builds the whole table in memory, at each call.
 fn line_at(place: usize) -> [u8; 14]
     requires { ⌜ place < 19 ⌝ }
     ensures { λ r. ⌜ rowFrom r ≡ getD table place (rowFrom []) ⌝ }
 {
+    let rows = ROWS;
     match place {
-        0 => [b'A', 0x0F, 1, 0, 0x00, 0x01, 1, 0, 1, 0, 0, 0, 0, 0], // direct
-        1 => [b'A', 0x10, 1, 0, 0x00, 0x08, 1, 0, 1, 0, 0, 0, 0, 0], // decode 2ch
-        2 => [b'A', 0x11, 1, 0, 0x00, 0x05, 1, 0, 1, 0, 0, 0, 0, 0], // decode MCH
-        3 => [b'A', 0x37, 3, 0, 0x00, 0x02, 1, 0, 1, 2, 0, 0, 0, 0], // room EQ
-        4 => [b'A', 0x38, 3, 1, 0x00, 0x02, 1, 0, 1, 0, 0, 0, 0, 1], // Dolby Volume
-        5 => [b'A', 0x39, 3, 2, 0x00, 0x0A, 0xFF, 0xFF, 1, 1, 0, 0, 1, 1], // Leveller
-        6 => [b'A', 0x3A, 3, 2, 0x00, 0x0F, 0x81, 0x8F, 1, 1, 0, 1, 0, 1], // calibration offset, dB
-        7 => [b'A', 0x44, 3, 0, 0x00, 0x08, 1, 0, 1, 0, 0, 0, 0, 0], // sample rate
-        8 => [b'A', 0x45, 3, 2, 0x00, 0x00, 0x81, 0x8A, 1, 1, 0, 1, 0, 1], // sub trim, quarter dB
-        9 => [b'A', 0x46, 3, 2, 0x00, 0x0A, 0x81, 0x8A, 1, 1, 0, 1, 0, 1], // picture brightness
-        10 => [b'S', 0x0D, 2, 1, 0x00, 0x63, 1, 0, 1, 1, 0, 0, 0, 1], // volume
-        11 => [b'S', 0x0E, 2, 1, 0x00, 0x01, 1, 0, 1, 3, 0, 0, 0, 1], // mute
-        12 => [b'S', 0x0F, 1, 0, 0x01, 0x03, 0x05, 0x06, 1, 0, 1, 0, 0, 0], // direct
-        13 => [b'S', 0x37, 2, 1, 0x00, 0x06, 0xA0, 0xA0, 1, 0, 0, 0, 0, 0], // room EQ
-        14 => [b'S', 0x3B, 2, 0, 0x00, 0x0C, 0x81, 0x8C, 1, 0, 0, 1, 0, 0], // balance
-        15 => [b'S', 0x44, 2, 0, 0x00, 0x0A, 1, 0, 1, 0, 0, 0, 0, 0], // sample rate
-        16 => [b'S', 0x5A, 2, 0, 0x00, 0x01, 1, 0, 1, 0, 0, 0, 0, 0], // input detect
-        17 => [b'S', 0x5B, 2, 2, 0x00, 0x00, 0x02, 0x09, 1, 0, 0, 0, 0, 1], // processor input
-        _ => [b'S', 0x5C, 2, 1, 0x00, 0x63, 1, 0, 1, 0, 0, 0, 0, 1], // processor volume
+        0 => rows[0],
+        1 => rows[1],
+        2 => rows[2],
+        3 => rows[3],
+        4 => rows[4],
+        5 => rows[5],
+        6 => rows[6],
+        7 => rows[7],
+        8 => rows[8],
+        9 => rows[9],
+        10 => rows[10],
+        11 => rows[11],
+        12 => rows[12],
+        13 => rows[13],
+        14 => rows[14],
+        15 => rows[15],
+        16 => rows[16],
+        17 => rows[17],
+        _ => rows[18],
     }
 }
 

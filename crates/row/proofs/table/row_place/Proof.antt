@@ -1,27 +1,95 @@
 -- `row::table::row_place` meets its contract.
+use mathlib.Core.List.{[]}
+use mathlib.Core.Path.{ap}
+use mathlib.Core.Logic.{⊎-elim}
+use Rattle.row.specs.Computed.{rowFrom}
+use Rattle.row.specs.declared.table.Row.{Row}
+use mathlib.Core.Path.{_≡_, sym, _∙_}
+use Prim.Native.Nat.{_+_, _-_, _≤_}
 use borrow.Author.Needs.{needs}
+use lib.ListN.{drop}
+use native.Mathlib.Omega.{arith}
+use Rattle.row.specs.Table.{table, firstPlace}
+use Rattle.row.proofs.Rows.{numbers, row-at, hit, miss-profile, miss-code, passed}
 use Rattle.row.proofs.table.row_place.Statement.{statement}
 use Rattle.row.proofs.table.row_place.Tie as tie
 
-enum-told : tie.Need-enum-told
-enum-told c = search needs
+abbrev Inv-loop : tie.InvT-loop
+Inv-loop command letter rows i₀ i = (i ≤ 19) × (firstPlace table letter command ≡ i + firstPlace (drop i table) letter command)
 
-place-in-a-requires : tie.Need-place-in-a-requires
-place-in-a-requires c κs = search needs
+abbrev μ-loop : tie.MeasureT-loop
+μ-loop command letter rows i₀ i = 19 - i
 
-enum-told-2 : tie.Need-enum-told-2
-enum-told-2 c = search needs
+letter-of-requires : tie.Need-letter-of-requires Inv-loop μ-loop
+letter-of-requires c κs = search needs
 
-place-in-s-requires : tie.Need-place-in-s-requires
-place-in-s-requires c κs = search needs
+loop-holds : tie.Need-loop-holds Inv-loop μ-loop
+loop-holds c = search needs
 
-returns : tie.Need-returns
-returns c = rw (c .before .enum-told .given .1, c .place-in-a .ensures)
+mul-numbers : tie.Need-mul-numbers Inv-loop μ-loop
+mul-numbers c = search needs
 
-returns-2 : tie.Need-returns-2
-returns-2 c = rw (c .before .enum-told2 .given .1, c .place-in-s .ensures)
+array-copy-out-numbers : tie.Need-array-copy-out-numbers Inv-loop μ-loop
+array-copy-out-numbers c = search needs
+
+array-read-if1 : tie.Need-array-read-if1 Inv-loop μ-loop
+array-read-if1 c = search needs
+
+array-read-if2 : tie.Need-array-read-if2 Inv-loop μ-loop
+array-read-if2 c = search needs
+
+returns : tie.Need-returns Inv-loop μ-loop
+unfolding table numbers
+returns c =
+    let l = c .before .before .before .before .loop in
+    let letter = c .before .before .before .before .before .letter-of in
+    let line = row-at (l .i) in
+    let here =
+    hit table (letter .result) _ (l .i) (rowFrom []) (search needs) (ap (λ (r : Row). r .profile) line ∙ c .before .if1 .taken) (ap (λ (r : Row). r .code) line ∙ c .if2 .taken) in
+    rw (sym (letter .ensures)) (omega (arith, l .inv .1, here))
+
+add-i : tie.Need-add-i Inv-loop μ-loop
+add-i c = search needs
+
+loop-less : tie.Need-loop-less Inv-loop μ-loop
+loop-less c = search needs
+
+loop-again : tie.Need-loop-again Inv-loop μ-loop
+unfolding table numbers
+loop-again c =
+    let l = c .before .before .before .loop in
+    let letter = c .before .before .before .before .letter-of .result in
+    let line = row-at (l .i) in (
+      search needs,
+      l .inv .1
+          ∙ ⊎-elim
+          (λ w. miss-code table letter _ (l .i) (rowFrom []) (search needs) (ap (λ (r : Row). r .profile) line ∙ w .0 .taken) (λ e. w .1 .left (sym (ap (λ (r : Row). r .code) line) ∙ e)))
+          (λ w. miss-profile table letter _ (l .i) (rowFrom []) (search needs) (λ e. w .left (sym (ap (λ (r : Row). r .profile) line) ∙ e)))
+          (c .if1 .came),
+    )
+
+returns-2 : tie.Need-returns-2 Inv-loop μ-loop
+unfolding table
+returns-2 c =
+    let l = c .before .loop in
+    let letter = c .before .before .letter-of in
+    let past = passed table (letter .result) (c .before .before .before .args .command) (l .i) (rowFrom []) (search needs) in
+    rw (sym (letter .ensures)) (omega (arith, l .inv .1, past))
 
 pub row-place-spec : {M : Type 1} → statement M
 row-place-spec =
     tie.close
-    (tie.spec enum-told place-in-a-requires enum-told-2 place-in-s-requires returns returns-2)
+    (tie.spec
+    Inv-loop
+    μ-loop
+    letter-of-requires
+    loop-holds
+    mul-numbers
+    array-copy-out-numbers
+    array-read-if1
+    array-read-if2
+    returns
+    add-i
+    loop-less
+    loop-again
+    returns-2)
