@@ -36,8 +36,3 @@ linesOf s = firstLines (s .lines) (s .count)
 unfoldable pub withAll : Sheet → List Line → Sheet
 withAll s [] = s
 withAll s (l ∷ ls) = withAll (withLine s l) ls
-
--- the bytes of each line, "in order"
-unfoldable pub inOrder : (Line → List ℕ) → List Line → List ℕ
-inOrder bytes [] = []
-inOrder bytes (l ∷ ls) = bytes l ++ inOrder bytes ls

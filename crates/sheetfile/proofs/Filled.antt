@@ -10,7 +10,8 @@ use Rattle.frame.specs.Frame.{frameOf}
 use Rattle.bytes.specs.Raw.{placed}
 use Rattle.bytes.proofs.Tail.{tail-placed}
 use Rattle.row.specs.declared.profile.Profile.{Profile}
-use Rattle.sheet.specs.Lines.{noLine, inOrder}
+use Rattle.sheet.specs.Lines.{noLine}
+use Rattle.sheetfile.specs.Order.{inOrder}
 use Rattle.sheetfile.specs.File.{recordSize}
 use Rattle.sheetfile.specs.Computed.{zerosOf, bytesOf, sheetBytes}
 use Rattle.sheet.specs.declared.line.Line.{Line}

@@ -12,7 +12,8 @@ use lib.ListN.{length}
 use Rattle.row.specs.Profile.{letterOf, profileOf}
 use Rattle.row.specs.declared.profile.Profile.{Profile}
 use Rattle.row.specs.declared.profile.Profile.the-variants.{A, S}
-use Rattle.sheet.specs.Lines.{withAll, linesOf, inOrder}
+use Rattle.sheet.specs.Lines.{noLines, withAll, linesOf}
+use Rattle.sheetfile.specs.Order.{inOrder}
 use Rattle.sheet.specs.Check.{firstRefusal, lowestFault, sheetVerdict}
 use Rattle.sheetfile.specs.File.{Record, recordSize, records, linesIn, isWhole, isMarked, lowestWrong, fileOf, fileVerdict, readBy, fileRead, fileReadBy}
 use Rattle.sheet.specs.SheetPromise.{Says}
@@ -157,5 +158,6 @@ file-letter letter file = record { named = named-by; twelve = twelve-by }
     named-by A e = rw e
     named-by S e = rw e
 
-    twelve-by : (letter ≡ 0x41 → ⊥) → (letter ≡ 0x53 → ⊥) → Says (fileReadBy (profileOf letter) file .verdict) 12 0
-    twelve-by a s = rw (ne-eqb letter 0x41 a, ne-eqb letter 0x53 s) (refl, refl)
+    twelve-by : (letter ≡ 0x41 → ⊥) → (letter ≡ 0x53 → ⊥)
+        → Says (fileReadBy (profileOf letter) file .verdict) 12 0 × (fileReadBy (profileOf letter) file .sheet ≡ noLines)
+    twelve-by a s = rw (ne-eqb letter 0x41 a, ne-eqb letter 0x53 s) ((refl, refl), refl)

@@ -48,5 +48,6 @@ pub record FileTrip (profile : Profile) (ls : List Line) : Type 0 where
 pub record FileLetter (letter : ℕ) (file : List ℕ) : Type 0 where
   -- A and S name their profiles
   pub named : (profile : Profile) → letter ≡ letterOf profile → fileReadBy (profileOf letter) file ≡ fileRead profile file
-  -- 12 for any other letter, whatever the file holds
-  pub twelve : (letter ≡ 0x41 → ⊥) → (letter ≡ 0x53 → ⊥) → Says (fileReadBy (profileOf letter) file .verdict) 12 0
+  -- 12 for any other letter, whatever the file holds, and no lines
+  pub twelve : (letter ≡ 0x41 → ⊥) → (letter ≡ 0x53 → ⊥)
+      → Says (fileReadBy (profileOf letter) file .verdict) 12 0 × (fileReadBy (profileOf letter) file .sheet ≡ noLines)

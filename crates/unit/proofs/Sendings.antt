@@ -10,7 +10,7 @@ use Rattle.frame.specs.Frame.{opens, ends, frameOf}
 use Rattle.frame.specs.Reader.{answerTo, takenAfter}
 use Rattle.frame.specs.declared.direction.Direction.the-variants.{Command}
 use Rattle.row.specs.declared.profile.Profile.{Profile}
-use Rattle.sheet.specs.Lines.{inOrder}
+use Rattle.sheetfile.specs.Order.{inOrder}
 use Rattle.sheet.specs.Line.{isLegal, sameCell}
 use Rattle.sheetfile.specs.Run.{lineFrame, framesOf}
 use Rattle.sheet.specs.declared.line.Line.{Line}

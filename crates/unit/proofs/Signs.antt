@@ -11,7 +11,7 @@ use Rattle.frame.specs.Reader.{answerTo, takenAfter}
 use Rattle.frame.specs.declared.direction.Direction.the-variants.{Command, Answer}
 use Rattle.row.specs.declared.profile.Profile.{Profile}
 use Rattle.sheet.specs.Line.{isLegal}
-use Rattle.sheet.specs.Lines.{inOrder}
+use Rattle.sheetfile.specs.Order.{inOrder}
 use Rattle.sheetfile.specs.Run.{flush, lineFrame, framesOf, runOf}
 use Rattle.sheet.specs.declared.line.Line.{Line}
 use Rattle.message.specs.Message.{fromReading, frameRead, readOf}

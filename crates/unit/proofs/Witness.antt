@@ -18,7 +18,7 @@ use Rattle.rules.specs.Judge.{isAnswer, rowJudged}
 use Rattle.message.specs.Content.{contentOf}
 use Rattle.message.specs.Message.{readOf}
 use Rattle.message.proofs.Tidy.{every, row-passes}
-use Rattle.sheet.specs.Lines.{inOrder}
+use Rattle.sheetfile.specs.Order.{inOrder}
 use Rattle.sheet.specs.Line.{isLegal, isRepeated}
 use Rattle.sheet.specs.Check.{lowestFault, sheetVerdict}
 use Rattle.sheetfile.specs.Run.{runOf}
