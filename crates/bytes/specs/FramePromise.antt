@@ -1,5 +1,5 @@
 -- Promise: a raw frame that is written reads back, from a reader that stands outside, as one frame with the same zone,
--- command, answer ac and data; a frame that is read, written raw, gives the same bytes.
+-- command, answer code and data; a frame that is read, written raw, gives the same bytes.
 use mathlib.Core.Path.{_≡_}
 use mathlib.Core.Bool.{true}
 use mathlib.Core.List.{List, [], _∷_, _++_}

@@ -4,6 +4,7 @@ use mathlib.Core.List.{List, [], _∷_, _++_}
 use mathlib.Core.Logic.{_⊎_, inl, inr}
 use Prim.Native.Nat.{ℕ}
 use native.Mathlib.Omega.{arith}
+use borrow.Author.Tests.{ne-eqb}
 use lib.ListN.{length}
 use Rattle.frame.specs.Refusal.{Line, noRoom}
 use Rattle.frame.specs.Frame.{frameOf}
@@ -15,13 +16,16 @@ use Rattle.bytes.specs.declared.raw.Written.{Written}
 use Rattle.bytes.specs.declared.raw.Written.the-variants as written
 use Rattle.frame.proofs.Rules.{rule-promise}
 use Rattle.bytes.proofs.Placed.{refused-keeps}
+use Rattle.row.specs.Profile.{profileOf}
 use Rattle.row.specs.declared.profile.Profile.{Profile}
-use Rattle.message.specs.Message.{readLines, messageOf, readOf}
+use Rattle.message.specs.Message.{readLines, messageOf, readOf, frameRead}
 use Rattle.message.specs.Write.{writeAnswered, writeLeft, writeLines, messageFrame, messageAnswered, messageLeft, fieldsAnswered, fieldsLeft}
-use Rattle.message.specs.Numbers.{readingNumber, readingPaper, zeros}
-use Rattle.message.specs.OrderPromise.{OrderPromise}
+use Rattle.message.specs.Numbers.{readingNumber, readingPaper, frameNumber, framePaper, zeros}
+use Rattle.message.specs.OrderPromise.{OrderPromise, WriteOrder, WriteOrderPromise}
 use Rattle.message.specs.RefusalPromise.{RefusalPromise}
 use Rattle.message.specs.declared.read.Message.{Message}
+use Rattle.message.specs.declared.read.FrameReading.{FrameReading}
+use Rattle.message.specs.declared.read.FrameReading.the-variants as frame-reading
 use Rattle.message.specs.declared.read.Reading.{Reading}
 use Rattle.message.specs.declared.read.Reading.the-variants as reading
 
@@ -60,6 +64,20 @@ module _ (profile : Profile) (dir : Direction) (zone command ac : ℕ) (body : L
   pub order-promise : OrderPromise profile dir zone command ac body
   order-promise = record { refused = refused; applies = applies; read = read; none = none }
 
+write-order : (ls : List Line) (buf : List ℕ) (at : ℕ) (bytes : List ℕ) → WriteOrder ls buf at bytes (writeAnswered ls buf at bytes)
+unfolding writeAnswered
+write-order ls buf at bytes = record {
+  refused = λ n w. rule-promise .refused (ls ++ noRoom buf at (length bytes) ∷ []) n w written.Refused (written.Bytes (length bytes));
+  written = λ w. rule-promise .accepted (ls ++ noRoom buf at (length bytes) ∷ []) w written.Refused (written.Bytes (length bytes));
+}
+
+pub write-order-promise : WriteOrderPromise
+unfolding messageAnswered fieldsAnswered
+write-order-promise = record {
+  message = λ profile buf at m body. write-order (writeLines profile m body) buf at (messageFrame profile m body);
+  fields = λ profile dir buf at zone command ac body. write-order (readLines profile dir zone command ac body) buf at (frameOf dir zone command ac body);
+}
+
 -- a write that was refused
 kept : (ls : List Line) (buf : List ℕ) (at : ℕ) (bytes : List ℕ) → (writtenNumber (writeAnswered ls buf at bytes) ≡ 0 → ⊥)
     → (writeLeft ls buf at bytes ≡ buf) × (writtenCount (writeAnswered ls buf at bytes) ≡ 0)
@@ -74,9 +92,16 @@ no-fields : (profile : Profile) (r : Reading) (body : List ℕ) → (readingNumb
 no-fields profile (reading.Message m) body e = absurd (e refl)
 no-fields profile (reading.Refused n) body e = refl
 
+no-frame-fields : (profile : Profile) (r : FrameReading) (body : List ℕ) → (frameNumber r ≡ 0 → ⊥) → framePaper profile r body ≡ zeros
+no-frame-fields profile (frame-reading.Message m) body e = absurd (e refl)
+no-frame-fields profile (frame-reading.Refused n) body e = refl
+no-frame-fields profile frame-reading.NotOneFrame body e = refl
+
 pub refusal-promise : RefusalPromise
-unfolding messageAnswered messageLeft fieldsAnswered fieldsLeft
+unfolding messageAnswered messageLeft fieldsAnswered fieldsLeft profileOf
 refusal-promise = record {
+  letter = λ l a s. rw (ne-eqb l 0x41 a, ne-eqb l 0x53 s);
+  frame-zero = λ profile dir bytes body. no-frame-fields profile (frameRead profile dir bytes) body;
   zero = λ profile dir zone command ac body. no-fields profile (readOf profile dir zone command ac body) body;
   message-kept = λ profile buf at m body. kept (writeLines profile m body) buf at (messageFrame profile m body);
   fields-kept = λ profile dir buf at zone command ac body. kept (readLines profile dir zone command ac body) buf at (frameOf dir zone command ac body);

@@ -16,7 +16,8 @@ use Rattle.row.specs.declared.profile.Profile.{Profile}
 use Rattle.row.specs.declared.table.Row.{Row}
 use Rattle.rules.specs.Judge.{rowIn, judgeLines, judgedOf}
 use Rattle.message.specs.Content.{contentOf}
-use Rattle.message.specs.Message.{said, saidRead, readOf, fromReading, frameRead, isDenied, deniedIn}
+use Rattle.message.specs.Message.{said, readOf, fromReading, frameRead, deniedIn}
+use Rattle.message.specs.Passed.{saidRead, isDenied}
 use Rattle.rules.specs.declared.judge.Judged.the-variants as judged
 use Rattle.message.specs.declared.read.Said.{Said}
 use Rattle.message.specs.declared.read.Message.{Message}

@@ -44,11 +44,6 @@ said profile dir zone command body = record { zone = zone; command = command; co
 abbrev pub denial : ℕ → ℕ → ℕ → Denial
 denial zone command ac = record { zone = zone; command = command; answer = ac }
 
--- what a command or a status says, where none of its lines applies
-unfoldable pub saidRead : Profile → Direction → ℕ → ℕ → List ℕ → SaidReading
-saidRead profile dir zone command body =
-    ruled (judgeLines profile dir zone command body) sayings.Refused (sayings.Said (said profile dir zone command body))
-
 -- the message that they are, where none of the lines applies
 abbrev pub messageOf : Profile → Direction → ℕ → ℕ → ℕ → List ℕ → Message
 messageOf profile Command zone command ac body = message.Command (said profile Command zone command body)
@@ -82,13 +77,3 @@ abbrev pub deniedIn : FrameReading → List ℕ → List ℕ
 deniedIn (frame.Message m) body = deniedData m body
 deniedIn (frame.Refused n) body = []
 deniedIn frame.NotOneFrame body = []
-
-abbrev pub isDenialMessage : Message → Bool
-isDenialMessage (message.Command s) = false
-isDenialMessage (message.Status s) = false
-isDenialMessage (message.Denied d) = true
-
-abbrev pub isDenied : FrameReading → Bool
-isDenied (frame.Message m) = isDenialMessage m
-isDenied (frame.Refused n) = false
-isDenied frame.NotOneFrame = false

@@ -4,16 +4,19 @@ use Prim.Native.Nat.{ℕ}
 use mathlib.Core.List.{List, []}
 use Rattle.message.specs.Write.{saidData}
 use Rattle.row.specs.declared.profile.Profile.{Profile}
-use Rattle.rules.specs.declared.judge.Judged.{Judged}
-use Rattle.rules.specs.declared.judge.Judged.the-variants as judged
+use Rattle.row.specs.declared.profile.Named.{Named}
+use Rattle.row.specs.declared.profile.Named.the-variants as named
 use Rattle.message.specs.declared.read.Message.{Message}
 use Rattle.message.specs.declared.read.Message.the-variants as message
 use Rattle.message.specs.declared.read.Reading.{Reading}
 use Rattle.message.specs.declared.read.Reading.the-variants as reading
+use Rattle.message.specs.declared.read.FrameReading.{FrameReading}
+use Rattle.message.specs.declared.read.FrameReading.the-variants as frame
 
-abbrev pub judgedNumber : Judged → ℕ
-judgedNumber (judged.Legal row) = 0
-judgedNumber (judged.Refused n) = n
+-- a profile's letter
+abbrev pub profileNumber : Named → ℕ
+profileNumber (named.Profile profile) = 0
+profileNumber (named.Refused n) = n
 
 abbrev pub readingNumber : Reading → ℕ
 readingNumber (reading.Message m) = 0
@@ -37,3 +40,14 @@ zeros = record { zone = 0; command = 0; answer = 0; body = [] }
 abbrev pub readingPaper : Profile → Reading → List ℕ → Paper
 readingPaper profile (reading.Message m) body = messagePaper profile m body
 readingPaper profile (reading.Refused n) body = zeros
+
+-- the same of a frame's bytes; where they are not one whole frame the paper has no number, and 0 stands here
+abbrev pub frameNumber : FrameReading → ℕ
+frameNumber (frame.Message m) = 0
+frameNumber (frame.Refused n) = n
+frameNumber frame.NotOneFrame = 0
+
+abbrev pub framePaper : Profile → FrameReading → List ℕ → Paper
+framePaper profile (frame.Message m) body = messagePaper profile m body
+framePaper profile (frame.Refused n) body = zeros
+framePaper profile frame.NotOneFrame body = zeros

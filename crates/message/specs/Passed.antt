@@ -1,4 +1,15 @@
--- How a refusal's number is passed on, from one answer's kind to the next. What is no refusal never comes here.
+-- What the private functions compute: nothing here need be believed. How a refusal's number is passed on, from one answer's kind
+-- to the next (what is no refusal never comes there); what a command or a status says; and whether a message is a denial.
+use Prim.Native.Nat.{ℕ}
+use mathlib.Core.Bool.{Bool, true, false}
+use mathlib.Core.List.{List}
+use Rattle.frame.specs.Refusal.{ruled}
+use Rattle.frame.specs.declared.direction.Direction.{Direction}
+use Rattle.row.specs.declared.profile.Profile.{Profile}
+use Rattle.rules.specs.Judge.{judgeLines}
+use Rattle.message.specs.Message.{said}
+use Rattle.message.specs.declared.read.Message.{Message}
+use Rattle.message.specs.declared.read.Message.the-variants as message
 use Rattle.bytes.specs.declared.raw.Written.{Written}
 use Rattle.bytes.specs.declared.raw.Written.the-variants as written
 use Rattle.rules.specs.declared.judge.Judged.{Judged}
@@ -29,3 +40,18 @@ judgedWritten (judged.Refused n) = written.Refused n
 abbrev pub readingWritten : Reading → Written
 readingWritten (reading.Message m) = written.Refused 0
 readingWritten (reading.Refused n) = written.Refused n
+
+-- what a command or a status says, where none of its lines applies
+unfoldable pub saidRead : Profile → Direction → ℕ → ℕ → List ℕ → SaidReading
+saidRead profile dir zone command body =
+    ruled (judgeLines profile dir zone command body) sayings.Refused (sayings.Said (said profile dir zone command body))
+
+abbrev pub isDenialMessage : Message → Bool
+isDenialMessage (message.Command s) = false
+isDenialMessage (message.Status s) = false
+isDenialMessage (message.Denied d) = true
+
+abbrev pub isDenied : FrameReading → Bool
+isDenied (frame.Message m) = isDenialMessage m
+isDenied (frame.Refused n) = false
+isDenied frame.NotOneFrame = false

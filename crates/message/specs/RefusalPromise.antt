@@ -5,15 +5,20 @@ use mathlib.Core.List.{List}
 use Prim.Native.Nat.{ℕ}
 use Rattle.bytes.specs.Numbers.{writtenNumber, writtenCount}
 use Rattle.frame.specs.declared.direction.Direction.{Direction}
+use Rattle.row.specs.Profile.{profileOf}
 use Rattle.row.specs.declared.profile.Profile.{Profile}
-use Rattle.message.specs.Message.{readOf}
-use Rattle.message.specs.Numbers.{readingNumber, readingPaper, zeros}
+use Rattle.message.specs.Message.{readOf, frameRead}
+use Rattle.message.specs.Numbers.{profileNumber, readingNumber, readingPaper, frameNumber, framePaper, zeros}
 use Rattle.message.specs.Write.{messageAnswered, messageLeft, fieldsAnswered, fieldsLeft}
 use Rattle.message.specs.declared.read.Message.{Message}
 
 pub record RefusalPromise : Type 0 where
+  -- 12 for any letter but A and S
+  pub letter : (l : ℕ) → (l ≡ 0x41 → ⊥) → (l ≡ 0x53 → ⊥) → profileNumber (profileOf l) ≡ 12
   pub zero : (profile : Profile) (dir : Direction) (zone command ac : ℕ) (body : List ℕ) → (readingNumber (readOf profile dir zone command ac body) ≡ 0 → ⊥)
       → readingPaper profile (readOf profile dir zone command ac body) body ≡ zeros
+  pub frame-zero : (profile : Profile) (dir : Direction) (bytes body : List ℕ) → (frameNumber (frameRead profile dir bytes) ≡ 0 → ⊥)
+      → framePaper profile (frameRead profile dir bytes) body ≡ zeros
   pub message-kept : (profile : Profile) (buf : List ℕ) (at : ℕ) (m : Message) (body : List ℕ) → (writtenNumber (messageAnswered profile buf at m body) ≡ 0 → ⊥)
       → (messageLeft profile buf at m body ≡ buf) × (writtenCount (messageAnswered profile buf at m body) ≡ 0)
   pub fields-kept : (profile : Profile) (dir : Direction) (buf : List ℕ) (at zone command ac : ℕ) (body : List ℕ)

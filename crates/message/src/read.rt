@@ -7,7 +7,8 @@ use rules::judge::Judged;
 use rules::judge::judge;
 ghost use mathlib.Core.Path.{_≡_};
 ghost use Rattle.frame.specs.declared.direction.Direction.the-variants as direction;
-ghost use Rattle.message.specs.Message.{saidRead, readOf, frameRead, isDenialMessage, isDenied, deniedIn};
+ghost use Rattle.message.specs.Message.{readOf, frameRead, deniedIn};
+ghost use Rattle.message.specs.Passed.{saidRead, isDenialMessage, isDenied};
 ghost use Rattle.bytes.specs.Fields.{dataOf};
 ghost use Rattle.message.specs.Passed.{judgedOn, saidOn, readingOn};
 

@@ -147,6 +147,5 @@ brought-promise = record {
   none = brought-none;
   frame = brought-behind;
   noise = noise-here;
-  every = λ capture. refl;
   others = λ capture at n. (refl, refl, refl);
 }

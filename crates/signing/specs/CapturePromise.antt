@@ -17,7 +17,7 @@ use Rattle.sheet.specs.declared.line.Line.{Line}
 use Rattle.sheet.specs.declared.check.Verdict.the-variants as verdict
 use Rattle.tracker.specs.Feed.{Brought, fedAll}
 use Rattle.signing.specs.SignPromise.{AllAnswered}
-use Rattle.signing.specs.Capture.{broughtAt, broughtAll, broughtBy, captureFed, captureSigned}
+use Rattle.signing.specs.Capture.{broughtAt, broughtBy, captureFed, captureSigned}
 use Rattle.tracker.specs.declared.kept.Tracker.{Tracker}
 use Rattle.signing.specs.declared.capture.CaptureAnswer.the-variants as answer
 use Rattle.signing.specs.declared.sign.Signed.the-variants.{Yes, No, Refused}
@@ -28,7 +28,6 @@ pub record BroughtPromise : Type 0 where
   pub frame : (zone command ac : ℕ) (body rest : List ℕ)
       → broughtBy (frameOf Answer zone command ac body ++ rest) ≡ record { zone = zone; command = command; answer = ac; body = body } ∷ broughtBy rest
   pub noise : (b : ℕ) (rest : List ℕ) → (b ≡ opens → ⊥) → broughtBy (b ∷ rest) ≡ broughtBy rest
-  pub every : (capture : List ℕ) → broughtBy capture ≡ broughtAll capture (eventsFrom Answer capture 0)
   pub others : (capture : List ℕ) (at n : ℕ) → (broughtAt capture (event at n kind.Broken) ≡ [])
       × (broughtAt capture (event at n kind.Noise) ≡ []) × (broughtAt capture (event at n kind.Pending) ≡ [])
 

@@ -1,17 +1,23 @@
 -- "A refusal returns its number and zero for every other field", and nothing that was lent differs after it.
-use Prim.Native.Nat.{ℕ, _<_}
+use Prim.Native.Nat.{ℕ, _≤_, _<_}
+use mathlib.Core.Bool.{true, false}
 use mathlib.Core.Path.{_≡_}
 use mathlib.Core.List.{List}
 use lib.ListN.{length}
-use Rattle.bytes.specs.declared.raw.Written.the-variants.{Refused}
+use Rattle.frame.specs.Refusal.{noRoom}
+use Rattle.bytes.specs.Numbers.{writtenNumber, writtenCount}
 use Rattle.text.specs.Text.{textAnswered, textLeft}
 use Rattle.text.specs.Pieces.{lineLimit, pieceAnswered, pieceLeft}
 use Rattle.text.specs.Numbers.{pieceNumber, pieceCount}
 use Rattle.text.specs.declared.listing.Place.{Place}
 
 pub record RefusalPromise : Type 0 where
-  -- a number that is refused
-  pub text : (buf : List ℕ) (at n : ℕ) (bytes : List ℕ) → textAnswered buf at bytes ≡ Refused n → (n ≡ 9) × (textLeft buf at bytes ≡ buf)
-  -- a piece that is refused: exactly for a buffer of less than 64 bytes
+  -- a number's text is refused exactly where there is no room for it
+  pub text : (buf : List ℕ) (at : ℕ) (bytes : List ℕ) → noRoom buf at (length bytes) .applies ≡ true
+      → (writtenNumber (textAnswered buf at bytes) ≡ 9) × (writtenCount (textAnswered buf at bytes) ≡ 0) × (textLeft buf at bytes ≡ buf)
+  pub text-written : (buf : List ℕ) (at : ℕ) (bytes : List ℕ) → noRoom buf at (length bytes) .applies ≡ false
+      → (writtenNumber (textAnswered buf at bytes) ≡ 0) × (writtenCount (textAnswered buf at bytes) ≡ length bytes)
+  -- a piece is refused exactly for a buffer of less than 64 bytes
   pub piece : (input : List ℕ) (at : Place) (buf : List ℕ) → length buf < lineLimit
       → (pieceNumber (pieceAnswered input at buf) ≡ 9) × (pieceCount (pieceAnswered input at buf) ≡ 0) × (pieceLeft input at buf ≡ buf)
+  pub piece-given : (input : List ℕ) (at : Place) (buf : List ℕ) → lineLimit ≤ length buf → pieceNumber (pieceAnswered input at buf) ≡ 0

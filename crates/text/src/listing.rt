@@ -79,7 +79,7 @@ fn list_refusal(number: u8, place: Place, buf: &mut [u8]) -> Piece
     }
 }
 
-// Row after line.
+// Line after line.
 fn list_lines(
     profile: Profile,
     direction: Direction,

@@ -43,7 +43,7 @@ pub record HousePromise (profile : Profile) (command : ℕ) (row : Row) (there :
   pub switched : (v : ℕ) → isNotCalculated row v ≡ false → (valueAfter row On v ≡ 0x01) × (valueAfter row Off v ≡ 0x00)
   -- "Toggle swaps 00 and 01."
   pub toggled : (valueAfter row Toggle 0x00 ≡ 0x01) × (valueAfter row Toggle 0x01 ≡ 0x00)
-  -- a request changes nothing; a setting code is held after it, whatever was held before
+  -- a request changes nothing; a setting code is held after it, whatever was held before but room EQ not calculated
   pub requested : (v : ℕ) → valueAfter row Request v ≡ v
   pub set : (v w : ℕ) → isNotCalculated row v ≡ false → isSetting row w ≡ true → valueAfter row (contentOf Command row (w ∷ [])) v ≡ w
   -- a legal value stays legal

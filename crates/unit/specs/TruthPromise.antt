@@ -1,7 +1,7 @@
 -- Promise: what holds where each unit has its own new tracker. Whatever bytes are sent to a unit at legal settings: where all its
 -- answers and no others, as bytes, are read and fed to a tracker made new before, each value that the tracker knows is the unit's
--- setting, at every moment. So a sheet that is signed
--- off is a sheet that the unit holds now. And after the full sending of demand 3 the unit's answers sign the sheet off.
+-- setting, at every moment. So a sheet that is signed off is a sheet that the unit holds now. And after the full sending of
+-- demand 3 the unit's answers sign the sheet off.
 use Prim.Native.Nat.{ℕ, _≤_}
 use mathlib.Core.Path.{_≡_}
 use mathlib.Core.List.{List}
