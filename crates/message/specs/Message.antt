@@ -1,6 +1,6 @@
 -- Document 01, 'Refusal numbers': "A message is read from the zone, command, answer code and data that a frame brings."
 use Prim.Native.Nat.{ℕ}
-use mathlib.Core.Bool.{Bool, true, false, cond, not, _&&_, _||_}
+use mathlib.Core.Bool.{Bool, cond, not, _&&_, _||_}
 use mathlib.Core.List.{List, [], _∷_}
 use lib.Dec.{eqb, leb}
 use Rattle.frame.specs.Refusal.{Line, line, ruled}
@@ -13,8 +13,6 @@ use Rattle.row.specs.declared.profile.Profile.{Profile}
 use Rattle.rules.specs.Judge.{rowIn, judgeLines}
 use Rattle.message.specs.Content.{contentOf}
 use Rattle.message.specs.declared.read.Said.{Said}
-use Rattle.message.specs.declared.read.SaidReading.{SaidReading}
-use Rattle.message.specs.declared.read.SaidReading.the-variants as sayings
 use Rattle.message.specs.declared.read.Denial.{Denial}
 use Rattle.message.specs.declared.read.Message.{Message}
 use Rattle.message.specs.declared.read.Message.the-variants as message

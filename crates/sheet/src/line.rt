@@ -4,8 +4,6 @@ use rules::judge::Judged;
 use rules::judge::is_setting;
 use rules::judge::judge_row;
 ghost use mathlib.Core.Path.{_≡_};
-ghost use mathlib.Core.Bool.{_&&_};
-ghost use Rattle.rules.specs.Judge.{isSetting};
 ghost use Rattle.sheet.specs.Line.{isSheetValue, isLegal, sameCell};
 
 // A line of a sheet: the value that a row is to have in a zone.

@@ -1,10 +1,9 @@
 -- `listing::list` is safe and ends: each piece leaves fewer lines.
-use mathlib.Core.Path.{_≡_, refl, sym, _∙_}
-use Prim.Native.Nat.{_≤_, _<_}
+use mathlib.Core.Path.{_≡_, sym, _∙_}
 use native.Mathlib.Omega.{arith}
 use lib.ListN.{length}
 use borrow.Author.Needs.{needs}
-use Rattle.text.specs.Pieces.{lineLimit, linesIn}
+use Rattle.text.specs.Pieces.{linesIn}
 use Rattle.text.proofs.Whole.{answered-fewer}
 use Rattle.listing.proofs.list.Statement.{statement}
 use Rattle.listing.proofs.list.Tie as tie
