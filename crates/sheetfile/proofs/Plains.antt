@@ -10,7 +10,11 @@ use Rattle.row.specs.declared.profile.Named.the-variants as named
 use Rattle.sheet.specs.Lines.{noLines, withAll, linesOf}
 use Rattle.sheet.specs.Check.{sheetVerdict}
 use Rattle.sheetfile.specs.File.{records, linesIn, fileOf, fileVerdict, readBy, fileRead, fileReadBy}
+use Rattle.sheetfile.specs.Run.{runOf}
 use Rattle.sheetfile.specs.Written.{answered, left, fileAnswered, fileLeft, runAnswered, runLeft}
+use Rattle.sheetfile.specs.Computed.{sheetBytes, fileAs}
+use Rattle.sheetfile.specs.declared.write.Form.{Form}
+use Rattle.sheetfile.specs.declared.write.Form.the-variants as form
 use Rattle.sheetfile.specs.Plain.{fileVerdictBy, copyAnswered, copyLeft, fileRunAnswered, fileRunLeft}
 use Rattle.sheetfile.specs.PlainPromise.{PlainPromise, PlainLetter}
 use Rattle.sheet.specs.declared.line.Line.{Line}
@@ -54,21 +58,36 @@ module _ (profile : Profile) (file : List ℕ) (buf : List ℕ) (at : ℕ) where
   refused-left n i bytes e = ap (λ (v : Verdict). left v buf at bytes) (said profile file (verdict.Refused n i) e)
 
   module _ (e : fileRead profile file .verdict ≡ verdict.Accepted) where
-    pub copied-answer : fileAnswered profile (linesOf (fileRead profile file .sheet)) buf at ≡ copyAnswered (named.Profile profile) file buf at
+    copied-answer : fileAnswered profile (linesOf (fileRead profile file .sheet)) buf at ≡ copyAnswered (named.Profile profile) file buf at
     copied-answer =
         ap (λ (s : Sheet). fileAnswered profile (linesOf s) buf at) (sheet-read profile file e) ∙ file-answer profile (lines profile file) buf at
         ∙ rw (both profile file e, same profile file e)
 
-    pub copied-left : fileLeft profile (linesOf (fileRead profile file .sheet)) buf at ≡ copyLeft (named.Profile profile) file buf at
+    copied-left : fileLeft profile (linesOf (fileRead profile file .sheet)) buf at ≡ copyLeft (named.Profile profile) file buf at
     copied-left =
         ap (λ (s : Sheet). fileLeft profile (linesOf s) buf at) (sheet-read profile file e) ∙ file-after profile (lines profile file) buf at
         ∙ rw (both profile file e, same profile file e)
 
-    pub ran-answer : runAnswered profile (linesOf (fileRead profile file .sheet)) buf at ≡ fileRunAnswered (named.Profile profile) file buf at
+    ran-answer : runAnswered profile (linesOf (fileRead profile file .sheet)) buf at ≡ fileRunAnswered (named.Profile profile) file buf at
     ran-answer = ap (λ (s : Sheet). runAnswered profile (linesOf s) buf at) (sheet-read profile file e) ∙ run-answer profile (lines profile file) buf at ∙ rw (both profile file e)
 
-    pub ran-left : runLeft profile (linesOf (fileRead profile file .sheet)) buf at ≡ fileRunLeft (named.Profile profile) file buf at
+    ran-left : runLeft profile (linesOf (fileRead profile file .sheet)) buf at ≡ fileRunLeft (named.Profile profile) file buf at
     ran-left = ap (λ (s : Sheet). runLeft profile (linesOf s) buf at) (sheet-read profile file e) ∙ run-after profile (lines profile file) buf at ∙ rw (both profile file e)
+
+  -- accepted: the sheet that was read is written as the file is
+  pub as-answer : (f : Form) → fileRead profile file .verdict ≡ verdict.Accepted
+      → answered (sheetVerdict profile (linesOf (fileRead profile file .sheet))) buf at (sheetBytes f profile (linesOf (fileRead profile file .sheet)))
+      ≡ answered (fileVerdict profile file) buf at (fileAs f file)
+  unfolding runOf
+  as-answer form.File e = copied-answer e
+  as-answer form.Run e = ran-answer e
+
+  pub as-left : (f : Form) → fileRead profile file .verdict ≡ verdict.Accepted
+      → left (sheetVerdict profile (linesOf (fileRead profile file .sheet))) buf at (sheetBytes f profile (linesOf (fileRead profile file .sheet)))
+      ≡ left (fileVerdict profile file) buf at (fileAs f file)
+  unfolding runOf
+  as-left form.File e = copied-left e
+  as-left form.Run e = ran-left e
 
 -- the file of some lines
 pub plain-promise : (letter : ℕ) (profile : Profile) (n : profileOf letter ≡ named.Profile profile) (ls : List Line) (buf : List ℕ) (at : ℕ) → PlainPromise letter profile n ls buf at

@@ -4,8 +4,8 @@ use mathlib.Core.List.{List, _++_}
 use lib.ListN.{getD, replicate}
 use Rattle.row.specs.declared.profile.Profile.{Profile}
 use Rattle.sheetfile.specs.Order.{inOrder}
-use Rattle.sheetfile.specs.File.{Record, recordOf}
-use Rattle.sheetfile.specs.Run.{flush, lineFrame}
+use Rattle.sheetfile.specs.File.{Record, recordOf, records, linesIn}
+use Rattle.sheetfile.specs.Run.{flush, lineFrame, runOf}
 use Rattle.sheet.specs.declared.line.Line.{Line}
 use Rattle.sheetfile.specs.declared.write.Form.{Form}
 use Rattle.sheetfile.specs.declared.write.Form.the-variants as form
@@ -32,3 +32,8 @@ bytesOf form.Run profile l = lineFrame l
 
 abbrev pub sheetBytes : Form → Profile → List Line → List ℕ
 sheetBytes f profile ls = replicate (zerosOf f) 0 ++ inOrder (bytesOf f profile) ls
+
+-- what an accepted file is written as: itself, or the run of its lines
+abbrev pub fileAs : Form → List ℕ → List ℕ
+fileAs form.File file = file
+fileAs form.Run file = runOf (linesIn (records file))

@@ -31,7 +31,7 @@ pub enum SheetWritten {
 }
 
 // What a sheet is written as.
-enum Form {
+pub(crate) enum Form {
     File,
     Run,
 }
@@ -51,7 +51,13 @@ pub fn put_run(buf: &mut [u8], at: usize, profile: Profile, sheet: Sheet) -> She
 }
 
 // The sheet's checks first.
-fn put_sheet(form: Form, profile: Profile, sheet: Sheet, buf: &mut [u8], at: usize) -> SheetWritten
+pub(crate) fn put_sheet(
+    form: Form,
+    profile: Profile,
+    sheet: Sheet,
+    buf: &mut [u8],
+    at: usize,
+) -> SheetWritten
     ensures { λ r. ⌜ (r ≡ answered (sheetVerdict profile (linesOf sheet)) (now (buf .entry)) at (sheetBytes form profile (linesOf sheet))) × (now (buf .exit) ≡ left (sheetVerdict profile (linesOf sheet)) (now (buf .entry)) at (sheetBytes form profile (linesOf sheet))) ⌝ }
 {
     match checked(profile, sheet) {
