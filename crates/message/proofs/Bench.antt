@@ -11,4 +11,4 @@ use Rattle.message.specs.BenchPromise.{frames, BenchPromise}
 
 pub bench-promise : BenchPromise
 unfolding answerTo takenAfter answers takenBy eventsTold eventsFrom isFrame bytesAt table firstRow numberOf contentOf readOf frameRead frames
-bench-promise = record { holds = refl }
+bench-promise = record { all = refl; holds = refl }

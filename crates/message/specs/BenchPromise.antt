@@ -4,6 +4,7 @@ use mathlib.Core.Path.{_≡_}
 use mathlib.Core.Bool.{true}
 use mathlib.Core.List.{List, [], _∷_, map}
 use Prim.Native.Nat.{ℕ}
+use lib.ListN.{length}
 use lib.IntN.{pos, negℤ}
 use Rattle.bytes.specs.Fields.{bytesAt}
 use Rattle.frame.specs.Capture.{eventsFrom, firstOf}
@@ -79,4 +80,5 @@ abbrev pub heard : Bench → FrameReading
 heard b = heardFirst (b .profile) (b .dir) (b .bytes) (firstOf (eventsFrom (b .dir) (b .bytes) 0))
 
 pub record BenchPromise : Type 0 where
+  pub all : length frames ≡ 15
   pub holds : map heard frames ≡ map (λ (b : Bench). b .means) frames

@@ -46,7 +46,7 @@ fit profile earlier (k ∷ ls) s =
 pub demand-3 : Demand3
 unfolding runOf
 demand-3 = record {
-  holds = λ profile s before sheet cuts legal bytes accepted.
+  holds = λ profile s before sheet cuts bytes accepted.
       let f = fit profile [] sheet (sheet-promise profile sheet .only accepted .1) in
       sending-promise flush (omega arith) .holds profile s before sheet cuts bytes (f .legal) (f .apart);
 }

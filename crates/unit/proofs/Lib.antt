@@ -2,6 +2,7 @@
 pub mod Trials
 mod Tests
 pub mod Cells
+pub mod Settings
 pub mod Houses
 pub mod Sets
 pub mod Flush

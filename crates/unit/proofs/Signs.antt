@@ -208,7 +208,7 @@ signs-full profile s before sheet cuts legal bytes accepted =
     let ends = all-sendings profile s want flush (omega arith) sheet w (f .legal) cuts u good in
     let t = tracked profile (replies u sent) in
     let known = subst (λ (fs : List Brought). Each (λ (l : Line). (b : ℕ) × (keptIn (fedAll (fresh profile) fs) (l .zone) (l .command) ≡ Value b)) sheet) (sym (ends .1)) (all-known profile s legal (ends .0) sheet (f .legal)) in
-    let full = demand-3 .holds profile s before sheet cuts legal bytes accepted .full in
+    let full = demand-3 .holds profile s before sheet cuts bytes accepted .full in
     sign-promise t sheet .yes (its-verdict profile (broughtBy (replies u sent)) sheet ∙ accepted)
     (all-hold t (after u sent .settings) (known-true u sent legal) sheet known full)
 

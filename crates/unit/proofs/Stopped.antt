@@ -21,7 +21,7 @@ all-taken xs s =
 
 pub stopped-promise : StoppedPromise
 unfolding frameOf takenBy
-stopped-promise = record { anywhere = anywhere }
+stopped-promise = record { anywhere = λ profile s. anywhere }
   where
     anywhere : (zone command : ℕ) (body : List ℕ) (n : ℕ) → n ≤ header Command + length body
         → takenBy Command [] (take n (frameOf Command zone command 0 body)) ≡ take n (frameOf Command zone command 0 body)

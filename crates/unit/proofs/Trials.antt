@@ -11,4 +11,4 @@ use Rattle.unit.specs.UnitTablePromise.{trials, UnitTablePromise}
 
 pub unit-table-promise : UnitTablePromise
 unfolding trials after replies frameDone frameOf answerTo takenAfter readOf contentOf firstRow table numberOf codeOf plainCodeOf
-unit-table-promise = record { holds = refl }
+unit-table-promise = record { all = refl; holds = refl }

@@ -1,7 +1,7 @@
 -- Demand 3's premises can be met, computed: legal settings that differ from an accepted sheet of twelve lines, and a plug pulled inside
 -- a frame. And 254 zeros do not suffice.
-use mathlib.Core.Path.{_≡_, refl, sym, _∙_}
-use mathlib.Core.Bool.{Bool, true, false, cond}
+use mathlib.Core.Path.{_≡_, refl, ap, sym, _∙_}
+use mathlib.Core.Bool.{Bool, true, false, cond, not, _&&_}
 use mathlib.Core.List.{List, [], _∷_, map}
 use Prim.Native.Nat.{ℕ}
 use native.Mathlib.Omega.{arith}
@@ -24,12 +24,15 @@ use Rattle.sheet.specs.Check.{lowestFault, sheetVerdict}
 use Rattle.sheetfile.specs.Run.{runOf}
 use Rattle.sheet.specs.declared.line.Line.{Line}
 use Rattle.sheet.specs.declared.check.Verdict.the-variants.{Accepted}
-use Rattle.unit.specs.Unit.{value, Unit, frameDone, after}
+use Rattle.unit.specs.Unit.{Cell, value, input, current, isCell, Unit, Holds, frameDone, after}
 use Rattle.unit.specs.Legal.{Legal, RowIn}
-use Rattle.unit.specs.Sending.{cellOf, sending, sendings}
+use Rattle.unit.specs.Sending.{cellOf, NotOn, sending, sendings}
 use Rattle.unit.specs.UnitTablePromise.{zeros}
-use Rattle.unit.specs.Demand3.{stopped, Promised}
+use Rattle.unit.specs.Demand3.{stopped, moment, Promised}
 use Rattle.unit.specs.SendingPromise.{SendingPromise, FlushPromise}
+use Rattle.message.proofs.Tests.{both}
+use Rattle.unit.proofs.Cells.{cell-self}
+use Rattle.unit.proofs.Tests.{clash}
 use Rattle.unit.proofs.Sets.{row-there}
 use Rattle.unit.proofs.Sendings.{sending-promise}
 use Rattle.unit.proofs.Demand.{demand-3}
@@ -87,22 +90,46 @@ sent = sendings cuts (runOf twelve)
 
 pub applied : Promised start twelve sent
 applied =
-    demand-3 .holds A zeros before twelve cuts (zeros-legal A)
+    demand-3 .holds A zeros before twelve cuts
     (omega arith, (omega arith, (omega arith, (omega arith, (omega arith, tt))))) accepted
 
 -- what it says, computed beside it: at the first cut three lines are set and the reader stands inside the fourth's frame; at the end
 -- all are
-pub pulled : map (λ (l : Line). after start (take 277 sent) .settings (cellOf l)) twelve ≡ 0x02 ∷ 0x01 ∷ 0x02 ∷ replicate 9 0x00
+pub pulled : map (λ (l : Line). moment start sent 277 .settings (cellOf l)) twelve ≡ 0x02 ∷ 0x01 ∷ 0x02 ∷ replicate 9 0x00
 unfolding runOf inOrder after frameDone frameOf answerTo takenAfter takenBy readOf contentOf firstRow table numberOf codeOf plainCodeOf
 pulled = refl
 
-pub pulled-inside : after start (take 277 sent) .taken ≡ 0x21 ∷ 0x01 ∷ 0x39 ∷ []
+pub pulled-inside : moment start sent 277 .taken ≡ 0x21 ∷ 0x01 ∷ 0x39 ∷ []
 unfolding runOf inOrder after frameDone frameOf answerTo takenAfter takenBy readOf contentOf firstRow table numberOf codeOf plainCodeOf
 pulled-inside = refl
+
+-- the second sending, cut too, has added nothing by then
+pub pulled-again : map (λ (l : Line). moment start sent 377 .settings (cellOf l)) twelve ≡ 0x02 ∷ 0x01 ∷ 0x02 ∷ replicate 9 0x00
+unfolding runOf inOrder after frameDone frameOf answerTo takenAfter takenBy readOf contentOf firstRow table numberOf codeOf plainCodeOf
+pulled-again = refl
 
 pub reached : map (λ (l : Line). after start sent .settings (cellOf l)) twelve ≡ map (λ (l : Line). l .value) twelve
 unfolding runOf inOrder after frameDone frameOf answerTo takenAfter takenBy readOf contentOf firstRow table numberOf codeOf plainCodeOf
 reached = refl
+
+-- settings that are not on the sheet, a row's, an input's and the current input, at every moment
+abbrev isNotOn : List Line → Cell → Bool
+isNotOn [] x = true
+isNotOn (l ∷ ls) x = not (isCell (cellOf l) x) && isNotOn ls x
+
+not-on : (ls : List Line) (x : Cell) → isNotOn ls x ≡ true → NotOn ls x
+not-on [] x e = tt
+not-on (l ∷ ls) x e =
+    let (first, rest) = both (not (isCell (cellOf l) x)) (isNotOn ls x) e in
+    (λ same. clash (sym (ap not (ap (λ (y : Cell). isCell y x) same ∙ cell-self x)) ∙ first), not-on ls x rest)
+
+pub untouched : (n : ℕ)
+    → Holds (moment start sent n) (value 1 0x45) 0x00 × Holds (moment start sent n) (input 0x06) 0x00 × Holds (moment start sent n) current 0x01
+untouched n = (
+  applied .others n (value 1 0x45) (not-on twelve (value 1 0x45) refl),
+  applied .others n (input 0x06) (not-on twelve (input 0x06) refl),
+  applied .others n current (not-on twelve current refl),
+)
 
 -- a unit stopped after 21 01 3A FF, with all of 255 bytes of data to come, and a sheet of one line
 abbrev stuck : Unit

@@ -17,16 +17,16 @@ use Rattle.unit.proofs.Demand.{demand-3}
 
 pub written-demand-3 : WrittenDemand3
 written-demand-3 = record {
-  run = λ profile s before sheet cuts buf at n legal bytes e.
+  run = λ profile s before sheet cuts buf at n bytes e.
       let w = wrote buf at (runOf sheet) (sheetVerdict profile sheet) n e in
       subst (λ (run : List ℕ). Promised (stopped profile s before) sheet (sendings cuts run)) (sym (w .there))
-      (demand-3 .holds profile s before sheet cuts legal bytes (w .accepted));
-  file = λ letter profile s before file cuts buf at n named legal bytes e.
+      (demand-3 .holds profile s before sheet cuts bytes (w .accepted));
+  file = λ letter profile s before file cuts buf at n named bytes e.
       let sheet = linesIn (records file) in
       let answered = ap (λ (family : Named). fileRunAnswered family file buf at) (sym named) ∙ e in
       let w = wrote buf at (runOf sheet) (fileVerdict profile file) n answered in
       let accepted : sheetVerdict profile sheet ≡ verdict.Accepted = accepted-marked profile file (w .accepted) .2 in
       let there = ap (λ (family : Named). placedBytes (fileRunLeft family file buf at) at n) named ∙ w .there in
       subst (λ (run : List ℕ). Promised (stopped profile s before) sheet (sendings cuts run)) (sym there)
-      (demand-3 .holds profile s before sheet cuts legal bytes accepted);
+      (demand-3 .holds profile s before sheet cuts bytes accepted);
 }

@@ -16,7 +16,6 @@ use Rattle.sheetfile.specs.Run.{runOf}
 use Rattle.sheet.specs.declared.line.Line.{Line}
 use Rattle.sheet.specs.declared.check.Verdict.the-variants.{Accepted}
 use Rattle.unit.specs.Unit.{Cell, Settings, Unit, Holds, after}
-use Rattle.unit.specs.Legal.{Legal}
 use Rattle.unit.specs.Sending.{Each, Bytes, cellOf, NotOn, sendings}
 
 -- "its reader outside any frame or stopped anywhere in an old one": whatever bytes came before
@@ -37,7 +36,8 @@ pub record Promised (u : Unit) (ls : List Line) (bytes : List ℕ) : Type 0 wher
   -- "after the full sending all those on the sheet hold the sheet's values"
   pub full : Each (λ (l : Line). Holds (after u bytes) (cellOf l) (l .value)) ls
 
+-- "at any legal settings": at any settings at all
 pub record Demand3 : Type 0 where
   pub holds : (profile : Profile) (s : Settings) (before : List ℕ) (sheet : List Line) (cuts : List ℕ)
-      → Legal profile s → Bytes before → sheetVerdict profile sheet ≡ Accepted
+      → Bytes before → sheetVerdict profile sheet ≡ Accepted
       → Promised (stopped profile s before) sheet (sendings cuts (runOf sheet))

@@ -3,6 +3,7 @@ pub mod House
 pub mod Unit
 pub mod Legal
 pub mod Sending
+pub mod SettingsPromise
 pub mod HousePromise
 pub mod UnitPromise
 pub mod UnitTablePromise
