@@ -1,14 +1,15 @@
 // Readers, captures and the bytes of frames.
-use crate::names;
 use crate::out::say;
+use crate::out::say_after;
+use crate::out::say_buffer;
 use crate::out::say_byte;
+use crate::out::say_byte_after;
 use crate::out::say_bytes;
 use crate::out::say_counted;
+use crate::out::say_letter;
 use crate::out::say_number;
+use crate::out::say_refused;
 use crate::spaces;
-use crate::words::argument;
-use crate::words::byte;
-use crate::words::number;
 use bytes::fields::Brought;
 use frame::capture::Counted;
 use frame::capture::Event;
@@ -19,6 +20,10 @@ use frame::direction::Direction;
 use frame::direction::Named;
 use frame::reader::ByteAnswer;
 use frame::reader::Reader;
+use words::arguments::argument;
+use words::arguments::byte;
+use words::arguments::number;
+use words::names;
 
 // An operation on a capture or on the bytes of frames.
 pub(crate) fn operate(operation: usize, space: &[u8], ends: [usize; 14], count: usize) {
@@ -37,7 +42,7 @@ pub(crate) fn operate(operation: usize, space: &[u8], ends: [usize; 14], count: 
     }
     match frame::direction::direction_of(byte(space, ends, 1)) {
         Named::Direction(direction) => { directed(operation, direction, space, ends, count) }
-        Named::Refused(number) => say_counted(b"refused ", number as u64),
+        Named::Refused(number) => say_refused(number),
     }
 }
 
@@ -98,10 +103,9 @@ fn parts(direction: Direction, space: &[u8], ends: [usize; 14], count: usize) {
 
 // A space before all but the first.
 fn space_before(place: usize) {
-    if place == 0 {
-        return;
+    if place != 0 {
+        say_letter(b' ');
     }
-    say(b" ")
 }
 
 // A fresh reader takes each byte.
@@ -118,10 +122,10 @@ fn feed(direction: Direction, bytes: &[u8]) {
 
 fn say_answer(answer: ByteAnswer) {
     match answer {
-        ByteAnswer::Waiting => say(b"w"),
-        ByteAnswer::Noise => say(b"n"),
-        ByteAnswer::Frame(n) => say_counted(b"f", n as u64),
-        ByteAnswer::Broken(n) => say_counted(b"b", n as u64),
+        ByteAnswer::Waiting => say_letter(b'w'),
+        ByteAnswer::Noise => say_letter(b'n'),
+        ByteAnswer::Frame(n) => say_after(b'f', n as u64),
+        ByteAnswer::Broken(n) => say_after(b'b', n as u64),
     }
 }
 
@@ -129,8 +133,8 @@ fn say_answer(answer: ByteAnswer) {
 fn part(reader: Reader, bytes: &[u8]) {
     let part = frame::stream::take_part(reader, bytes);
     say_number(part.frame as u64);
-    say_counted(b"/", part.broken as u64);
-    say_counted(b"/", part.noise as u64)
+    say_after(b'/', part.broken as u64);
+    say_after(b'/', part.noise as u64)
 }
 
 // The events of a capture, from 0 on.
@@ -160,13 +164,13 @@ fn event(direction: Direction, capture: &[u8], place: usize) {
 
 fn say_event(event: Event) {
     say_number(event.at as u64);
-    say_counted(b"+", event.length as u64);
+    say_after(b'+', event.length as u64);
     let kind = event.kind;
     match kind {
-        Kind::Frame => say(b"f"),
-        Kind::Broken => say(b"b"),
-        Kind::Noise => say(b"n"),
-        Kind::Pending => say(b"p"),
+        Kind::Frame => say_letter(b'f'),
+        Kind::Broken => say_letter(b'b'),
+        Kind::Noise => say_letter(b'n'),
+        Kind::Pending => say_letter(b'p'),
     }
 }
 
@@ -178,7 +182,7 @@ fn totals(letter: u8, capture: &[u8]) {
             say_counted(b" noise ", totals.noise as u64);
             say_counted(b" pending ", totals.pending as u64)
         }
-        Counted::Refused(number) => say_counted(b"refused ", number as u64),
+        Counted::Refused(number) => say_refused(number),
     }
 }
 
@@ -186,12 +190,9 @@ fn fields(direction: Direction, bytes: &[u8]) {
     match bytes::fields::frame_fields(direction, bytes) {
         Brought::Frame(fields) => {
             say_byte(fields.zone);
-            say(b" ");
-            say_byte(fields.command);
-            say(b" ");
-            say_byte(fields.answer);
-            say(b" : ");
-            say_bytes(bytes::fields::frame_data(direction, bytes))
+            say_byte_after(fields.command);
+            say_byte_after(fields.answer);
+            say_buffer(bytes::fields::frame_data(direction, bytes))
         }
         Brought::NotOneFrame => say(b"not one frame"),
     }

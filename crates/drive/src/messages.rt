@@ -1,14 +1,13 @@
 // Messages read and written.
-use crate::names;
 use crate::out::say;
+use crate::out::say_buffer;
 use crate::out::say_byte;
-use crate::out::say_bytes;
+use crate::out::say_byte_after;
 use crate::out::say_counted;
+use crate::out::say_letter;
 use crate::out::say_number;
+use crate::out::say_refused;
 use crate::spaces;
-use crate::words::argument;
-use crate::words::byte;
-use crate::words::number;
 use bytes::raw::Written;
 use frame::direction::Direction;
 use message::content::Content;
@@ -21,12 +20,16 @@ use row::profile::Profile;
 use row::signed::Coded;
 use row::table::Found;
 use sheet::line::Line;
+use words::arguments::argument;
+use words::arguments::byte;
+use words::arguments::number;
+use words::names;
 
 // An operation on messages that are read, and on codes and rows.
 pub(crate) fn operate(operation: usize, space: &[u8], ends: [usize; 14]) {
     if operation == names::NUMBER {
         let number = row::signed::number_of(byte(space, ends, 1));
-        say_integer(b"", number);
+        say_integer(number);
         return;
     }
     if operation == names::CODE {
@@ -41,7 +44,7 @@ pub(crate) fn operate(operation: usize, space: &[u8], ends: [usize; 14]) {
     }
     match row::profile::profile_of(byte(space, ends, 1)) {
         row::profile::Named::Profile(profile) => { profiled(operation, profile, space, ends) }
-        row::profile::Named::Refused(number) => { say_counted(b"refused ", number as u64) }
+        row::profile::Named::Refused(number) => say_refused(number)
     }
 }
 
@@ -75,7 +78,7 @@ fn profiled(operation: usize, profile: Profile, space: &[u8], ends: [usize; 14])
         frame::direction::Named::Direction(direction) => {
             directed(operation, profile, direction, space, ends)
         }
-        frame::direction::Named::Refused(number) => { say_counted(b"refused ", number as u64) }
+        frame::direction::Named::Refused(number) => say_refused(number)
     }
 }
 
@@ -87,11 +90,10 @@ fn say_row(found: Found) {
 }
 
 fn say_legal(legal: bool) {
-    if legal {
-        say(b"legal");
-        return;
+    if !legal {
+        say(b"not ");
     }
-    say(b"not legal")
+    say(b"legal")
 }
 
 fn directed(
@@ -121,7 +123,7 @@ fn directed(
 pub(crate) fn say_reading(reading: Reading, body: &[u8]) {
     match reading {
         Reading::Message(message) => say_message(message, body),
-        Reading::Refused(number) => say_counted(b"refused ", number as u64),
+        Reading::Refused(number) => say_refused(number),
     }
 }
 
@@ -130,7 +132,7 @@ fn frame(profile: Profile, direction: Direction, bytes: &[u8]) {
     let body = message::read::denied_data(profile, direction, bytes);
     match reading {
         FrameReading::Message(message) => say_message(message, body),
-        FrameReading::Refused(number) => say_counted(b"refused ", number as u64),
+        FrameReading::Refused(number) => say_refused(number),
         FrameReading::NotOneFrame => say(b"not one frame"),
     }
 }
@@ -145,43 +147,46 @@ fn say_message(message: Message, body: &[u8]) {
 
 fn say_said(word: &[u8], said: Said) {
     say_counted(word, said.zone as u64);
-    say(b" ");
-    say_byte(said.command);
-    say(b" ");
+    say_byte_after(said.command);
+    say_letter(b' ');
     let content = said.content;
     say_content(content)
 }
 
 fn say_denied(denial: Denial, body: &[u8]) {
     say_counted(b"denied ", denial.zone as u64);
-    say(b" ");
-    say_byte(denial.command);
-    say(b" ");
-    say_byte(denial.answer);
-    say(b" : ");
-    say_bytes(body)
+    say_byte_after(denial.command);
+    say_byte_after(denial.answer);
+    say_buffer(body)
 }
 
 pub(crate) fn say_content(content: Content) {
     match content {
-        Content::Request => say(b"request"),
-        Content::Up => say(b"up"),
-        Content::Down => say(b"down"),
-        Content::On => say(b"on"),
-        Content::Off => say(b"off"),
-        Content::Toggle => say(b"toggle"),
-        Content::LevellerOff => say(b"off"),
-        Content::Number(number) => say_integer(b"number ", number),
+        Content::Request => say_word(0, 7),
+        Content::Up => say_word(8, 2),
+        Content::Down => say_word(11, 4),
+        Content::On => say_word(16, 2),
+        Content::Off => say_word(19, 3),
+        Content::Toggle => say_word(23, 6),
+        Content::LevellerOff => say_word(19, 3),
+        Content::Number(number) => {
+            say_word(30, 7);
+            say_integer(number)
+        }
         Content::Input(input, on) => say_input(input, on),
     }
 }
 
-// A word, and a number that may be below zero.
-pub(crate) fn say_integer(word: &[u8], number: i16) {
-    say(word);
+// The word at a place of the words that a content is said by.
+fn say_word(place: usize, length: usize) {
+    let words = b"request up down on off toggle number ";
+    say(bytes::fields::bytes_at(words, place, length))
+}
+
+// A number that may be below zero.
+fn say_integer(number: i16) {
     if number < 0 {
-        say_counted(b"-", size_of(number) as u64);
-        return;
+        say_letter(b'-');
     }
     say_number(size_of(number) as u64)
 }
@@ -196,11 +201,12 @@ fn size_of(number: i16) -> u16 {
 
 fn say_input(input: u8, on: bool) {
     say_counted(b"input ", input as u64);
+    say_letter(b' ');
     if on {
-        say(b" on");
+        say_word(16, 2);
         return;
     }
-    say(b" off")
+    say_word(19, 3)
 }
 
 // The answer of a write, and the buffer after it.
@@ -208,18 +214,12 @@ pub(crate) fn say_written(written: Written, buf: &[u8]) {
     match written {
         Written::Bytes(count) => {
             say_counted(b"bytes ", count as u64);
-            say_buffer(buf)
         }
         Written::Refused(number) => {
-            say_counted(b"refused ", number as u64);
-            say_buffer(buf)
+            say_refused(number);
         }
     }
-}
-
-pub(crate) fn say_buffer(buf: &[u8]) {
-    say(b" : ");
-    say_bytes(buf)
+    say_buffer(buf)
 }
 
 // What a message to be written says, by its number in tests/README.md.

@@ -9,6 +9,32 @@ pub(crate) fn say_number(number: u64) {
     io::print_decimal(OUT, number);
 }
 
+pub(crate) fn say_letter(letter: u8) {
+    io::write_all(OUT, &[letter]);
+}
+
+// A letter, and a number behind it.
+pub(crate) fn say_after(letter: u8, number: u64) {
+    io::write_all(OUT, &[letter]);
+    io::print_decimal(OUT, number);
+}
+
+pub(crate) fn say_refused(number: u8) {
+    io::write_all(OUT, b"refused ");
+    io::print_decimal(OUT, number as u64);
+}
+
+// A space, and a byte as hex digits.
+pub(crate) fn say_byte_after(byte: u8) {
+    io::write_all(OUT, &[b' ', digit(byte / 16), digit(byte % 16)]);
+}
+
+// Bytes behind all else that is said.
+pub(crate) fn say_buffer(bytes: &[u8]) {
+    io::write_all(OUT, b" : ");
+    say_bytes(bytes)
+}
+
 // A word, and a number behind it.
 pub(crate) fn say_counted(word: &[u8], number: u64) {
     io::write_all(OUT, word);
@@ -32,7 +58,7 @@ fn digit(value: u8) -> u8 {
 // Bytes as hex digits, run together; a dash for none.
 pub(crate) fn say_bytes(bytes: &[u8]) {
     if bytes.len() == 0 {
-        say(b"-");
+        say_letter(b'-');
         return;
     }
     let mut gathered = io::buffer();
@@ -65,7 +91,7 @@ fn with_room(gathered: &[u8], at: usize) -> usize {
 }
 
 // One byte more, where there is room.
-pub(crate) fn put_byte(to: &mut [u8], count: usize, byte: u8) -> usize {
+fn put_byte(to: &mut [u8], count: usize, byte: u8) -> usize {
     if count >= to.len() {
         return count;
     }

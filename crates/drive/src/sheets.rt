@@ -1,11 +1,10 @@
 // Sheet files, runs, sign-offs and trackers.
-use crate::messages::say_buffer;
-use crate::names;
+use crate::out;
 use crate::out::say;
+use crate::out::say_buffer;
 use crate::out::say_byte;
+use crate::out::say_byte_after;
 use crate::out::say_counted;
-use crate::words::argument;
-use crate::words::byte;
 use sheet::check::Verdict;
 use sheet::line::Line;
 use sheet::lines::SHEET_LIMIT;
@@ -13,6 +12,9 @@ use sheetfile::file::FileRead;
 use sheetfile::write::SheetWritten;
 use signing::plain::CaptureCell;
 use signing::sign::Signed;
+use words::arguments::argument;
+use words::arguments::byte;
+use words::names;
 
 // An operation on sheet files that writes nothing, and on trackers.
 pub(crate) fn operate(operation: usize, space: &[u8], ends: [usize; 14]) {
@@ -31,7 +33,7 @@ pub(crate) fn operate(operation: usize, space: &[u8], ends: [usize; 14]) {
 
 // A refusal and its place.
 fn say_refused(number: u8, place: usize) {
-    say_counted(b"refused ", number as u64);
+    out::say_refused(number);
     say_counted(b" at ", place as u64)
 }
 
@@ -53,7 +55,7 @@ fn say_sheet(read: FileRead) {
 fn say_lines(lines: [Line; SHEET_LIMIT], count: usize) {
     say_counted(b"accepted ", count as u64);
     if count == 0 {
-        say(b" : -");
+        say_buffer(&[]);
         return;
     }
     say(b" :");
@@ -65,26 +67,23 @@ fn say_lines(lines: [Line; SHEET_LIMIT], count: usize) {
 
 // A line of the sheet; those behind its count are not its own.
 fn say_line(line: Line, own: bool) {
-    if !own {
-        return;
+    if own {
+        say_byte_after(line.zone);
+        say_byte(line.command);
+        say_byte(line.value);
     }
-    say(b" ");
-    say_byte(line.zone);
-    say_byte(line.command);
-    say_byte(line.value)
 }
 
 pub(crate) fn say_written(written: SheetWritten, buf: &[u8]) {
     match written {
         SheetWritten::Bytes(count) => {
             say_counted(b"bytes ", count as u64);
-            say_buffer(buf)
         }
         SheetWritten::Refused(number, place) => {
             say_refused(number, place);
-            say_buffer(buf)
         }
     }
+    say_buffer(buf)
 }
 
 fn sign(letter: u8, file: &[u8], capture: &[u8]) {
@@ -98,11 +97,11 @@ fn sign(letter: u8, file: &[u8], capture: &[u8]) {
 fn cell(letter: u8, capture: &[u8], zone: u8, command: u8) {
     match signing::plain::cell_in_capture(letter, capture, zone, command) {
         CaptureCell::Value(value) => {
-            say(b"value ");
-            say_byte(value)
+            say(b"value");
+            say_byte_after(value)
         }
         CaptureCell::Unknown => say(b"unknown"),
         CaptureCell::NoCell => say(b"no cell"),
-        CaptureCell::Refused(number) => say_counted(b"refused ", number as u64),
+        CaptureCell::Refused(number) => out::say_refused(number),
     }
 }

@@ -2,9 +2,12 @@
 use crate::messages::say_content;
 use crate::messages::say_reading;
 use crate::out::say;
+use crate::out::say_after;
 use crate::out::say_byte;
+use crate::out::say_byte_after;
 use crate::out::say_bytes;
 use crate::out::say_counted;
+use crate::out::say_letter;
 use frame::direction::Direction;
 use message::read::Message;
 use message::read::Reading;
@@ -12,6 +15,10 @@ use message::read::read_message;
 use row::profile::Profile;
 
 const BYTES: u16 = 256;
+
+const PAIRS: u32 = 65536;
+
+const MESSAGES: u32 = 16777216;
 
 // How many messages were accepted and how many got each refusal.
 pub(crate) struct Counts {
@@ -37,56 +44,29 @@ fn none() -> Counts {
 // Every zone, command and data byte.
 pub(crate) fn all(profile: Profile, direction: Direction) {
     let mut counts = none();
-    for zone in 0..BYTES {
-        counts = all_commands(profile, direction, zone as u8, counts);
+    for place in 0..MESSAGES {
+        let zone = (place / 65536) as u8;
+        let command = (place / 256 % 256) as u8;
+        counts = count_one(
+            profile,
+            direction,
+            zone,
+            command,
+            &[(place % 256) as u8],
+            counts,
+        );
     }
     say_counts(counts)
-}
-
-fn all_commands(profile: Profile, direction: Direction, zone: u8, before: Counts) -> Counts {
-    let mut counts = before;
-    for command in 0..BYTES {
-        counts = all_bytes(profile, direction, zone, command as u8, counts);
-    }
-    counts
-}
-
-fn all_bytes(
-    profile: Profile,
-    direction: Direction,
-    zone: u8,
-    command: u8,
-    before: Counts,
-) -> Counts {
-    let mut counts = before;
-    for byte in 0..BYTES {
-        counts = count_one(profile, direction, zone, command, &[byte as u8], counts);
-    }
-    counts
 }
 
 // Every data of two bytes of S 0F in zone 1.
 pub(crate) fn pairs(direction: Direction) {
     let mut counts = none();
-    for first in 0..BYTES {
-        counts = pairs_from(direction, first as u8, counts);
+    for place in 0..PAIRS {
+        let body = [(place / 256) as u8, (place % 256) as u8];
+        counts = count_one(Profile::S, direction, 1, 0x0F, &body, counts);
     }
     say_counts(counts)
-}
-
-fn pairs_from(direction: Direction, first: u8, before: Counts) -> Counts {
-    let mut counts = before;
-    for second in 0..BYTES {
-        counts = count_one(
-            Profile::S,
-            direction,
-            1,
-            0x0F,
-            &[first, second as u8],
-            counts,
-        );
-    }
-    counts
 }
 
 // One message: counted, and said where it is accepted.
@@ -136,13 +116,12 @@ fn counted_as(counts: Counts, number: u8) -> Counts {
 
 fn say_accepted(zone: u8, command: u8, body: &[u8], message: Message) {
     say_byte(zone);
-    say(b" ");
-    say_byte(command);
-    say(b" ");
+    say_byte_after(command);
+    say_letter(b' ');
     say_bytes(body);
-    say(b" ");
+    say_letter(b' ');
     say_message_content(message);
-    say(b"\n")
+    say_letter(b'\n')
 }
 
 fn say_message_content(message: Message) {
@@ -161,11 +140,18 @@ fn say_message_content(message: Message) {
 
 fn say_counts(counts: Counts) {
     say_counted(b"accepted ", counts.accepted);
-    say_counted(b" refused 1:", counts.first);
-    say_counted(b" 2:", counts.second);
-    say_counted(b" 3:", counts.third);
-    say_counted(b" 4:", counts.fourth);
-    say_counted(b" 5:", counts.fifth)
+    say(b" refused");
+    say_count(1, counts.first);
+    say_count(2, counts.second);
+    say_count(3, counts.third);
+    say_count(4, counts.fourth);
+    say_count(5, counts.fifth)
+}
+
+// How many got a refusal.
+fn say_count(refusal: u64, count: u64) {
+    say_after(b' ', refusal);
+    say_after(b':', count)
 }
 
 // An answer with every answer code, a line each.
@@ -178,10 +164,9 @@ pub(crate) fn codes(profile: Profile, zone: u8, command: u8, body: &[u8]) {
 fn one_code(profile: Profile, zone: u8, command: u8, code: u8, body: &[u8]) {
     let reading = read_message(profile, Direction::Answer, zone, command, code, body);
     say_byte(code);
-    say(b" ");
+    say_letter(b' ');
     say_reading(reading, body);
-    if code == 255 {
-        return;
+    if code != 255 {
+        say_letter(b'\n');
     }
-    say(b"\n")
 }

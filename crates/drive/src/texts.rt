@@ -3,12 +3,34 @@ use crate::out::say;
 use text::listing::Piece;
 use text::listing::Place;
 use text::listing::list_piece;
+use words::arguments::argument;
+use words::arguments::number;
+use words::names;
 
 // More than any listing has rows.
 const PIECES: u32 = 100000;
 
+// The listing through a buffer of a given length.
+pub(crate) fn operate(operation: usize, space: &[u8], ends: [usize; 14]) {
+    let mut room = io::buffer();
+    if operation == names::LISTING {
+        listing(argument(space, ends, 1), &mut room);
+        return;
+    }
+    let length = number(space, ends, 1) % 4097;
+    pieces(argument(space, ends, 2), &mut room, length as usize)
+}
+
+fn pieces(input: &[u8], room: &mut [u8], length: usize) {
+    if length > room.len() {
+        return;
+    }
+    let skip = room.len() - length;
+    listing(input, &mut room[skip..])
+}
+
 // The listing through a lent buffer, all its lines.
-pub(crate) fn listing(input: &[u8], buf: &mut [u8]) {
+fn listing(input: &[u8], buf: &mut [u8]) {
     let mut place = Place::Start;
     for turn in 0..PIECES {
         let answer = list_piece(input, place, buf);

@@ -2,11 +2,8 @@
 use crate::messages::content;
 use crate::messages::say_written;
 use crate::messages::signed;
-use crate::names;
+use crate::out::say_letter;
 use crate::sheets;
-use crate::words::argument;
-use crate::words::byte;
-use crate::words::number;
 use bytes::raw::Written;
 use bytes::raw::write_raw;
 use frame::direction::Direction;
@@ -17,23 +14,61 @@ use message::write::write_fields;
 use message::write::write_message;
 use row::profile::Profile;
 use sheetfile::write::SheetWritten;
+use words::arguments::argument;
+use words::arguments::byte;
+use words::arguments::number;
+use words::names;
 
-pub(crate) fn operate(operation: usize, space: &[u8], ends: [usize; 14], room: &mut [u8]) {
+pub(crate) fn operate(operation: usize, space: &[u8], ends: [usize; 14]) {
+    let mut room = [0xAAu8; 4096];
     let place = length_place(operation);
     let length = (number(space, ends, place) % 4097) as usize;
+    let spot = number(space, ends, std::num::wrapping_add_usize(place, 1)) as usize;
+    if operation == names::WRITE {
+        if !is_written(space, ends) {
+            say_letter(b'?');
+            return;
+        }
+    }
+    if is_sheet(operation) {
+        sheet_written(operation, space, ends, &mut room, length, spot);
+        return;
+    }
+    written(operation, space, ends, &mut room, length, spot)
+}
+
+// Writes into the last bytes of the room, and says them.
+fn written(
+    operation: usize,
+    space: &[u8],
+    ends: [usize; 14],
+    room: &mut [u8],
+    length: usize,
+    spot: usize,
+) {
     if length > room.len() {
         return;
     }
-    fill(room);
     let skip = room.len() - length;
-    let spot = number(space, ends, std::num::wrapping_add_usize(place, 1)) as usize;
-    if is_sheet(operation) {
-        let written = write_sheet(operation, space, ends, &mut room[skip..], spot);
-        sheets::say_written(written, bytes::fields::last_bytes(room, length));
-        return;
-    }
     let written = write(operation, space, ends, &mut room[skip..], spot);
     say_written(written, bytes::fields::last_bytes(room, length))
+}
+
+// The same of a sheet file.
+fn sheet_written(
+    operation: usize,
+    space: &[u8],
+    ends: [usize; 14],
+    room: &mut [u8],
+    length: usize,
+    spot: usize,
+) {
+    if length > room.len() {
+        return;
+    }
+    let skip = room.len() - length;
+    let written = write_sheet(operation, space, ends, &mut room[skip..], spot);
+    sheets::say_written(written, bytes::fields::last_bytes(room, length))
 }
 
 // Which argument the length is.
@@ -55,12 +90,6 @@ fn is_sheet(operation: usize) -> bool {
         return true;
     }
     operation == names::RUN
-}
-
-fn fill(room: &mut [u8]) {
-    for i in 0..room.len() {
-        room[i] = 0xAA;
-    }
 }
 
 fn write_sheet(

@@ -7,11 +7,10 @@ use Rattle.drive.proofs.read_lines.Statement.{statement}
 use Rattle.drive.proofs.read_lines.Tie as tie
 
 abbrev Inv-loop : tie.InvT-loop
-Inv-loop line₀ space₀ room₀ input₀ count₀ read₀ line space room input count read =
-    (read ≤ 4294967295) × (length line ≡ length line₀) × (length space ≡ length space₀) × (length room ≡ length room₀) × (length input ≡ 65536)
+Inv-loop line₀ input₀ count₀ read₀ line input count read = (read ≤ 4294967295) × (length line ≡ length line₀) × (length input ≡ 65536)
 
 abbrev μ-loop : tie.MeasureT-loop
-μ-loop line₀ space₀ room₀ input₀ count₀ read₀ line space room input count read = 4294967295 - read
+μ-loop line₀ input₀ count₀ read₀ line input count read = 4294967295 - read
 
 large-buffer-requires : tie.Need-large-buffer-requires Inv-loop μ-loop
 large-buffer-requires c κs = search needs
@@ -24,21 +23,6 @@ slice-aggregate-read-full c = search needs
 
 read-full-requires : tie.Need-read-full-requires Inv-loop μ-loop
 read-full-requires c κs = search needs
-
-end-line-requires : tie.Need-end-line-requires Inv-loop μ-loop
-end-line-requires c κs = search needs
-
-same-length : tie.Need-same-length Inv-loop μ-loop
-same-length c = search needs
-
-same-length-2 : tie.Need-same-length-2 Inv-loop μ-loop
-same-length-2 c = search needs
-
-same-length-3 : tie.Need-same-length-3 Inv-loop μ-loop
-same-length-3 c = search needs
-
-returns : tie.Need-returns Inv-loop μ-loop
-returns c = search needs
 
 slice-aggregate-bytes-at : tie.Need-slice-aggregate-bytes-at Inv-loop μ-loop
 slice-aggregate-bytes-at c = search needs
@@ -58,14 +42,17 @@ loop-less c = search needs
 loop-again : tie.Need-loop-again Inv-loop μ-loop
 loop-again c = search needs
 
-same-length-4 : tie.Need-same-length-4 Inv-loop μ-loop
-same-length-4 c = search needs
+operate-requires : tie.Need-operate-requires Inv-loop μ-loop
+operate-requires c κs = search needs
 
-same-length-5 : tie.Need-same-length-5 Inv-loop μ-loop
-same-length-5 c = search needs
+same-length : tie.Need-same-length Inv-loop μ-loop
+same-length c = search needs
 
-same-length-6 : tie.Need-same-length-6 Inv-loop μ-loop
-same-length-6 c = search needs
+returns : tie.Need-returns Inv-loop μ-loop
+returns c = search needs
+
+same-length-2 : tie.Need-same-length-2 Inv-loop μ-loop
+same-length-2 c = search needs
 
 returns-2 : tie.Need-returns-2 Inv-loop μ-loop
 returns-2 c = search needs
@@ -80,18 +67,14 @@ read-lines-spec =
     loop-holds
     slice-aggregate-read-full
     read-full-requires
-    end-line-requires
-    same-length
-    same-length-2
-    same-length-3
-    returns
     slice-aggregate-bytes-at
     bytes-at-requires
     take-bytes-requires
     add-read
     loop-less
     loop-again
-    same-length-4
-    same-length-5
-    same-length-6
+    operate-requires
+    same-length
+    returns
+    same-length-2
     returns-2)

@@ -7,10 +7,10 @@ use Rattle.drive.proofs.take_bytes.Statement.{statement}
 use Rattle.drive.proofs.take_bytes.Tie as tie
 
 abbrev Inv-loop : tie.InvT-loop
-Inv-loop bytes line₀ count space₀ room₀ characters₀ i₀ i-end line space room characters i = (i ≤ i-end) × (length line ≡ length line₀) × (length space ≡ length space₀) × (length room ≡ length room₀)
+Inv-loop bytes line₀ count characters₀ i₀ i-end line characters i = (i ≤ i-end) × (length line ≡ length line₀)
 
 abbrev μ-loop : tie.MeasureT-loop
-μ-loop bytes line₀ count space₀ room₀ characters₀ i₀ i-end line space room characters i = i-end - i
+μ-loop bytes line₀ count characters₀ i₀ i-end line characters i = i-end - i
 
 loop-holds : tie.Need-loop-holds Inv-loop μ-loop
 loop-holds c = search needs
@@ -33,12 +33,6 @@ loop-again c = search needs
 same-length : tie.Need-same-length Inv-loop μ-loop
 same-length c = search needs
 
-same-length-2 : tie.Need-same-length-2 Inv-loop μ-loop
-same-length-2 c = search needs
-
-same-length-3 : tie.Need-same-length-3 Inv-loop μ-loop
-same-length-3 c = search needs
-
 returns : tie.Need-returns Inv-loop μ-loop
 returns c = search needs
 
@@ -55,6 +49,4 @@ take-bytes-spec =
     loop-less
     loop-again
     same-length
-    same-length-2
-    same-length-3
     returns)

@@ -16,20 +16,20 @@ slice-aggregate-say-counted c = search needs
 say-counted-requires : tie.Need-say-counted-requires Inv-loop μ-loop
 say-counted-requires c κs = search needs
 
+slice-aggregate-say-buffer : tie.Need-slice-aggregate-say-buffer Inv-loop μ-loop
+slice-aggregate-say-buffer c = search needs
+
+say-buffer-requires : tie.Need-say-buffer-requires Inv-loop μ-loop
+say-buffer-requires c κs = search needs
+
+returns : tie.Need-returns Inv-loop μ-loop
+returns c = search needs
+
 slice-aggregate-say : tie.Need-slice-aggregate-say Inv-loop μ-loop
 slice-aggregate-say c = search needs
 
 say-requires : tie.Need-say-requires Inv-loop μ-loop
 say-requires c κs = search needs
-
-returns : tie.Need-returns Inv-loop μ-loop
-returns c = search needs
-
-slice-aggregate-say-2 : tie.Need-slice-aggregate-say-2 Inv-loop μ-loop
-slice-aggregate-say-2 c = search needs
-
-say-requires-2 : tie.Need-say-requires-2 Inv-loop μ-loop
-say-requires-2 c κs = search needs
 
 loop-holds : tie.Need-loop-holds Inv-loop μ-loop
 loop-holds c = search needs
@@ -63,11 +63,11 @@ say-lines-spec =
     μ-loop
     slice-aggregate-say-counted
     say-counted-requires
+    slice-aggregate-say-buffer
+    say-buffer-requires
+    returns
     slice-aggregate-say
     say-requires
-    returns
-    slice-aggregate-say-2
-    say-requires-2
     loop-holds
     mul-line
     array-copy-out-line

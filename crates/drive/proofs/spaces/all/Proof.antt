@@ -5,10 +5,10 @@ use Rattle.drive.proofs.spaces.all.Statement.{statement}
 use Rattle.drive.proofs.spaces.all.Tie as tie
 
 abbrev Inv-loop : tie.InvT-loop
-Inv-loop profile direction counts₀ zone₀ counts zone = zone ≤ 256
+Inv-loop profile direction counts₀ place₀ counts place = place ≤ 16777216
 
 abbrev μ-loop : tie.MeasureT-loop
-μ-loop profile direction counts₀ zone₀ counts zone = 256 - zone
+μ-loop profile direction counts₀ place₀ counts place = 16777216 - place
 
 none-requires : tie.Need-none-requires Inv-loop μ-loop
 none-requires c κs = search needs
@@ -16,14 +16,23 @@ none-requires c κs = search needs
 loop-holds : tie.Need-loop-holds Inv-loop μ-loop
 loop-holds c = search needs
 
-cast-all-commands : tie.Need-cast-all-commands Inv-loop μ-loop
-cast-all-commands c = search needs
+cast-zone : tie.Need-cast-zone Inv-loop μ-loop
+cast-zone c = search needs
 
-all-commands-requires : tie.Need-all-commands-requires Inv-loop μ-loop
-all-commands-requires c κs = search needs
+cast-command : tie.Need-cast-command Inv-loop μ-loop
+cast-command c = search needs
 
-add-zone : tie.Need-add-zone Inv-loop μ-loop
-add-zone c = search needs
+cast-t11 : tie.Need-cast-t11 Inv-loop μ-loop
+cast-t11 c = search needs
+
+slice-aggregate-count-one : tie.Need-slice-aggregate-count-one Inv-loop μ-loop
+slice-aggregate-count-one c = search needs
+
+count-one-requires : tie.Need-count-one-requires Inv-loop μ-loop
+count-one-requires c κs = search needs
+
+add-place : tie.Need-add-place Inv-loop μ-loop
+add-place c = search needs
 
 loop-less : tie.Need-loop-less Inv-loop μ-loop
 loop-less c = search needs
@@ -45,9 +54,12 @@ all-spec =
     μ-loop
     none-requires
     loop-holds
-    cast-all-commands
-    all-commands-requires
-    add-zone
+    cast-zone
+    cast-command
+    cast-t11
+    slice-aggregate-count-one
+    count-one-requires
+    add-place
     loop-less
     loop-again
     say-counts-requires

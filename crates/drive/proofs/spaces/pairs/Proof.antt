@@ -5,10 +5,10 @@ use Rattle.drive.proofs.spaces.pairs.Statement.{statement}
 use Rattle.drive.proofs.spaces.pairs.Tie as tie
 
 abbrev Inv-loop : tie.InvT-loop
-Inv-loop direction counts₀ first₀ counts first = first ≤ 256
+Inv-loop direction counts₀ place₀ counts place = place ≤ 65536
 
 abbrev μ-loop : tie.MeasureT-loop
-μ-loop direction counts₀ first₀ counts first = 256 - first
+μ-loop direction counts₀ place₀ counts place = 65536 - place
 
 none-requires : tie.Need-none-requires Inv-loop μ-loop
 none-requires c κs = search needs
@@ -16,14 +16,20 @@ none-requires c κs = search needs
 loop-holds : tie.Need-loop-holds Inv-loop μ-loop
 loop-holds c = search needs
 
-cast-pairs-from : tie.Need-cast-pairs-from Inv-loop μ-loop
-cast-pairs-from c = search needs
+cast-t7 : tie.Need-cast-t7 Inv-loop μ-loop
+cast-t7 c = search needs
 
-pairs-from-requires : tie.Need-pairs-from-requires Inv-loop μ-loop
-pairs-from-requires c κs = search needs
+cast-t9 : tie.Need-cast-t9 Inv-loop μ-loop
+cast-t9 c = search needs
 
-add-first : tie.Need-add-first Inv-loop μ-loop
-add-first c = search needs
+slice-aggregate-count-one : tie.Need-slice-aggregate-count-one Inv-loop μ-loop
+slice-aggregate-count-one c = search needs
+
+count-one-requires : tie.Need-count-one-requires Inv-loop μ-loop
+count-one-requires c κs = search needs
+
+add-place : tie.Need-add-place Inv-loop μ-loop
+add-place c = search needs
 
 loop-less : tie.Need-loop-less Inv-loop μ-loop
 loop-less c = search needs
@@ -45,9 +51,11 @@ pairs-spec =
     μ-loop
     none-requires
     loop-holds
-    cast-pairs-from
-    pairs-from-requires
-    add-first
+    cast-t7
+    cast-t9
+    slice-aggregate-count-one
+    count-one-requires
+    add-place
     loop-less
     loop-again
     say-counts-requires

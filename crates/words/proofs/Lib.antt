@@ -1,0 +1,3 @@
+-- Proofs about the words of a line.
+pub mod Laws
+pub mod OneAnswer

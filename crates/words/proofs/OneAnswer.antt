@@ -1,0 +1,29 @@
+-- Each public function's contract admits one answer: its result, and the lent bytes after it where it has any.
+use mathlib.Core.Path.{_≡_}
+use mathlib.Core.Bool.{Bool}
+use mathlib.Core.List.{List}
+use Prim.Native.Nat.{ℕ}
+use Rattle.frame.specs.OneAnswer.{OneAnswer}
+use Rattle.bytes.proofs.OneAnswer.{one, one-lent}
+use Rattle.words.specs.Arguments.{noneOf, letterIn, closedOf, argumentsIn, bytesIn, argumentIn, byteOf, numberOf}
+use Rattle.words.specs.Names.{operationOf}
+use Rattle.words.specs.declared.arguments.Arguments.{Arguments}
+
+pub decoded-one : (line : List ℕ) (count : ℕ)
+    → OneAnswer (λ (x : Arguments × List ℕ). (x .0 ≡ closedOf (argumentsIn count line count 0 noneOf)) × (x .1 ≡ bytesIn count line count 0 noneOf))
+decoded-one line count = one-lent (closedOf (argumentsIn count line count 0 noneOf)) (bytesIn count line count 0 noneOf)
+
+pub letter-one : (line : List ℕ) (count place : ℕ) → OneAnswer (λ x. x ≡ letterIn line count place)
+letter-one line count place = one (letterIn line count place)
+
+pub argument-one : (space ends : List ℕ) (place : ℕ) → OneAnswer (λ x. x ≡ argumentIn space ends place)
+argument-one space ends place = one (argumentIn space ends place)
+
+pub byte-one : (space ends : List ℕ) (place : ℕ) → OneAnswer (λ x. x ≡ byteOf (argumentIn space ends place))
+byte-one space ends place = one (byteOf (argumentIn space ends place))
+
+pub number-one : (space ends : List ℕ) (place : ℕ) → OneAnswer (λ x. x ≡ numberOf 0 (argumentIn space ends place))
+number-one space ends place = one (numberOf 0 (argumentIn space ends place))
+
+pub operation-one : (name : ℕ) (space ends : List ℕ) (count : ℕ) (short : Bool) → OneAnswer (λ x. x ≡ operationOf name space ends count short)
+operation-one name space ends count short = one (operationOf name space ends count short)
