@@ -171,7 +171,7 @@ fn reply(line: &[u8], tally: &mut Tally) -> Option<Reply> {
         ("check", [p, file]) => sheets::check(one(p)?, file).into(),
         ("copy", [p, length, place, file]) => {
             let place = text::number(place)?;
-            sheets::sheet_bytes(one(p)?, size(length)?, place, file, sheetfile::file)
+            sheets::sheet_bytes(one(p)?, size(length)?, place, file, sheet::file)
         }
         ("run", [p, length, place, file]) => {
             let place = text::number(place)?;
