@@ -15,14 +15,15 @@ mod sheet;
 mod tally;
 mod text;
 mod tracker;
+mod trials;
 mod unit;
 
 use std::fs::{self, File};
 use std::io::{self, BufReader, BufWriter, Read, Write};
 use std::process::ExitCode;
 
-const USE: &str = "use: second operations | listing | generate SEED COUNT OPS | exhaustive OPS \
-| runs SEED COUNT OPS | plug SEED COUNT RUNS OUTPUT OPS EXPECTED";
+const USE: &str = "use: second operations | listing | trials | generate SEED COUNT OPS \
+| exhaustive OPS | runs SEED COUNT OPS | plug SEED COUNT RUNS OUTPUT OPS EXPECTED";
 
 fn main() -> ExitCode {
     let arguments: Vec<String> = std::env::args_os()
@@ -43,6 +44,7 @@ fn run(arguments: &[&str]) -> Result<ExitCode, String> {
     match *arguments {
         ["operations"] => operations(),
         ["listing"] => listing(),
+        ["trials"] => trials(),
         ["generate", seed, count, ops] => generate(number(seed)?, count_of(count)?, ops),
         ["exhaustive", ops] => {
             exhaustive::exhaustive(create(ops)?).map_err(|error| format!("{ops}: {error}"))?;
@@ -82,6 +84,11 @@ fn listing() -> Result<ExitCode, String> {
         .read_to_end(&mut input)
         .map_err(|error| error.to_string())?;
     print(&listing::program(&input))?;
+    Ok(ExitCode::SUCCESS)
+}
+
+fn trials() -> Result<ExitCode, String> {
+    trials::run_all(io::stdin().lock(), io::stdout().lock()).map_err(|error| error.to_string())?;
     Ok(ExitCode::SUCCESS)
 }
 

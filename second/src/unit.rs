@@ -17,12 +17,20 @@ pub struct Settings {
 }
 
 impl Settings {
+    /// 00 in every row and for every input, and the first input.
+    pub fn zeros() -> Settings {
+        Settings {
+            values: [[0; ZONES]; ROWS.len()],
+            direct: [0; INPUTS.len()],
+            current: 0,
+        }
+    }
+
     /// Random legal settings.
     pub fn random(random: &mut Random, profile: Profile) -> Settings {
         let mut settings = Settings {
-            values: [[0; ZONES]; ROWS.len()],
-            direct: [0; INPUTS.len()],
             current: random.below(INPUTS.len()),
+            ..Settings::zeros()
         };
         for (index, row) in ROWS.iter().enumerate() {
             if row.profile != profile || row.codes == Codes::Pair {
@@ -174,9 +182,7 @@ mod tests {
     use crate::text;
 
     fn unit(profile: Profile) -> Unit {
-        let mut unit = Unit::new(profile, Settings::random(&mut Random::new(1), profile));
-        unit.settings.values = [[0; ZONES]; ROWS.len()];
-        unit.settings.direct = [0; INPUTS.len()];
+        let mut unit = Unit::new(profile, Settings::zeros());
         unit.settings.current = 4;
         unit
     }
