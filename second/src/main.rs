@@ -22,7 +22,7 @@ use std::fs::{self, File};
 use std::io::{self, BufReader, BufWriter, Read, Write};
 use std::process::ExitCode;
 
-const USE: &str = "use: second operations | listing | trials | generate SEED COUNT OPS \
+const USE: &str = "use: second operations | listing | trials | rows | generate SEED COUNT OPS \
 | exhaustive OPS | runs SEED COUNT OPS | plug SEED COUNT RUNS OUTPUT OPS EXPECTED";
 
 fn main() -> ExitCode {
@@ -45,6 +45,10 @@ fn run(arguments: &[&str]) -> Result<ExitCode, String> {
         ["operations"] => operations(),
         ["listing"] => listing(),
         ["trials"] => trials(),
+        ["rows"] => {
+            print(&rows::table())?;
+            Ok(ExitCode::SUCCESS)
+        }
         ["generate", seed, count, ops] => generate(number(seed)?, count_of(count)?, ops),
         ["exhaustive", ops] => {
             exhaustive::exhaustive(create(ops)?).map_err(|error| format!("{ops}: {error}"))?;

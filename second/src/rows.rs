@@ -282,6 +282,83 @@ impl Row {
     pub fn has_sheet_value(&self, value: u8) -> bool {
         self.mark == Mark::Sheet && holds(self.settings, value)
     }
+
+    /// The row as 14 numbers; none where they cannot show it.
+    pub fn numbers(&self) -> Option<[u8; 14]> {
+        let settings = stretches(|code| holds(self.settings, code));
+        let answers = match self.codes {
+            Codes::Pair => stretches(|code| INPUTS.contains(&code)),
+            _ => stretches(|code| holds(self.answers, code)),
+        };
+        // Commands set the first of the answer's stretches or all of them.
+        if !answers.starts_with(&settings) {
+            return None;
+        }
+        let (first, second) = match *answers {
+            [first] => (first, (1, 0)),
+            [first, second] => (first, second),
+            _ => return None,
+        };
+        let zones = match self.zones {
+            Zones::All => self.profile.zones(),
+            Zones::One => 1,
+        };
+        let request = (0xF0, Says::Request);
+        let others: Vec<(u8, Says)> = self
+            .orders
+            .iter()
+            .copied()
+            .filter(|&order| order != request)
+            .collect();
+        let others = match *others {
+            [] => 0,
+            [(0xF1, Says::Up), (0xF2, Says::Down)] => 1,
+            [(0xF1, Says::On), (0xF2, Says::Off)] => 2,
+            [(0x02, Says::Toggle)] => 3,
+            _ => return None,
+        };
+        Some([
+            self.profile.letter(),
+            self.command,
+            zones,
+            settings.len() as u8,
+            first.0,
+            first.1,
+            second.0,
+            second.1,
+            u8::from(self.orders.contains(&request)),
+            others,
+            u8::from(self.codes == Codes::Pair),
+            u8::from(self.codes == Codes::Signed),
+            u8::from(self.codes == Codes::Leveller),
+            u8::from(self.mark == Mark::Sheet),
+        ])
+    }
+}
+
+/// The table as text: a line for each row, its numbers in decimal, or `?`.
+pub fn table() -> String {
+    let mut text = String::new();
+    for row in &ROWS {
+        match row.numbers() {
+            Some(numbers) => text.push_str(&numbers.map(|number| number.to_string()).join(" ")),
+            None => text.push('?'),
+        }
+        text.push('\n');
+    }
+    text
+}
+
+/// First and last of each unbroken stretch of codes.
+fn stretches(has: impl Fn(u8) -> bool) -> Vec<(u8, u8)> {
+    let mut found: Vec<(u8, u8)> = Vec::new();
+    for code in (0..=255).filter(|&code| has(code)) {
+        match found.last_mut() {
+            Some(stretch) if stretch.1 + 1 == code => stretch.1 = code,
+            _ => found.push((code, code)),
+        }
+    }
+    found
 }
 
 fn holds(ranges: Ranges, code: u8) -> bool {
@@ -342,6 +419,16 @@ mod tests {
                 assert!(row.zones == Zones::All);
             }
         }
+    }
+
+    #[test]
+    fn rows_as_numbers() {
+        let of = |profile, command| ROWS[find(profile, command).unwrap()].numbers().unwrap();
+        let leveller = [0x41, 0x39, 3, 2, 0x00, 0x0A, 0xFF, 0xFF, 1, 1, 0, 0, 1, 1];
+        assert_eq!(of(Profile::A, 0x39), leveller);
+        let direct = [0x53, 0x0F, 1, 0, 1, 3, 5, 6, 1, 0, 1, 0, 0, 0];
+        assert_eq!(of(Profile::S, 0x0F), direct);
+        assert!(!table().contains('?'));
     }
 
     #[test]
