@@ -5,7 +5,8 @@ use Prim.Native.Nat.{ℕ}
 use lib.ListN.{replicate}
 use Rattle.frame.specs.Frame.{frameOf}
 use Rattle.frame.specs.Reader.{answerTo, takenAfter, answers, takenBy}
-use Rattle.frame.specs.Small.{fedAt, answersOf, fresh}
+use Rattle.frame.specs.Small.{fedAt, answersOf, readerAfter, fresh}
+use Rattle.frame.specs.CutPromise.{answersInParts, fedInParts}
 use Rattle.frame.specs.Capture.{settled, labels, count, event, eventsTold, eventsFrom, countedOf}
 use Rattle.bytes.specs.Fields.{isFrame, fieldsOf, dataOf}
 use Rattle.bytes.specs.Raw.{rawAnswered, rawLeft}
@@ -49,6 +50,20 @@ pub fed-by-byte : answersOf (fresh Command) (0x0D ∷ 0x21 ∷ 0x01 ∷ 0x0D ∷
     ∷ answer.Waiting ∷ answer.Waiting ∷ answer.Waiting ∷ answer.Frame 5 ∷ []
 unfolding answersOf fedAt
 fed-by-byte = refl
+
+-- the same bytes in three parts: the same answers, and the counts of the whole
+abbrev three : List (List ℕ)
+three = (0x0D ∷ 0x21 ∷ []) ∷ (0x01 ∷ 0x0D ∷ 0x00 ∷ 0x21 ∷ []) ∷ (0x01 ∷ 0x0E ∷ 0x00 ∷ 0x0D ∷ []) ∷ []
+
+pub fed-in-three : answersInParts (fresh Command) three
+    ≡ answer.Noise ∷ answer.Waiting ∷ answer.Waiting ∷ answer.Waiting ∷ answer.Waiting ∷ answer.Broken 4
+    ∷ answer.Waiting ∷ answer.Waiting ∷ answer.Waiting ∷ answer.Frame 5 ∷ []
+unfolding answersOf readerAfter fedAt
+fed-in-three = refl
+
+pub counted-in-three : fedInParts (fresh Command) three ≡ record { reader = fresh Command; frame = 5; broken = 4; noise = 1 }
+unfolding answersOf readerAfter fedAt count settled
+counted-in-three = refl
 
 -- a raw answer with two data bytes, at place 1 of nine bytes: written, and found there
 pub raw-written : rawAnswered Answer (replicate 9 7) 1 (0x06 ∷ 0x01 ∷ []) ≡ written.Bytes 8

@@ -1,5 +1,5 @@
 -- A refusal leaves the lent bytes as they were, and every field but its number is zero.
-use mathlib.Core.Path.{_≡_, refl}
+use mathlib.Core.Path.{_≡_, refl, ap}
 use mathlib.Core.List.{List}
 use Prim.Native.Nat.{ℕ}
 use native.Mathlib.Omega.{arith}
@@ -43,7 +43,11 @@ letter-first (named.Direction dir) capture e = absurd (omega (arith, e))
 letter-first (named.Refused n) capture e = e
 
 pub refusal-promise : RefusalPromise
+unfolding directionOf
 refusal-promise = record {
+  named = (refl, refl);
+  written = λ dir buf at body n e. (ap writtenNumber e, ap writtenCount e);
+  totals = λ letter capture t e. (ap countedNumber e, ap countedTotals e);
   letter = other-letter;
   first = λ l. letter-first (directionOf l);
   kept = kept;

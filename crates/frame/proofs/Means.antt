@@ -3,20 +3,22 @@ use mathlib.Core.Path.{_≡_, refl, sym, _∙_, subst}
 use mathlib.Core.Bool.{Bool, true, false}
 use mathlib.Core.List.{List, []}
 use mathlib.Core.Logic.{_⊎_, inl, inr}
-use Prim.Native.Nat.{ℕ, _+_}
+use Prim.Native.Nat.{ℕ, _+_, _≤_}
 use native.Mathlib.Omega.{arith}
-use borrow.Author.Tests.{eq-eqb, ne-eqb, eqb-true, eqb-false, ltb-true, ltb-false}
+use borrow.Author.Tests.{eq-eqb, ne-eqb, eqb-true, eqb-false, ltb-true, ltb-false, lt-ltb, le-ltb}
 use lib.Dec.{eqb, ltb}
 use lib.ListN.{length}
 use Rattle.frame.specs.Frame.{header, opens, ends, dl}
 use Rattle.frame.specs.Reader.{answerTo}
+use Rattle.frame.specs.Small.{fedAt}
 use Rattle.frame.specs.Meaning.{Outside, Inside, AtEndPlace, Means}
 use Rattle.frame.specs.AnswerPromise.{AnswerPromise}
-use Rattle.frame.specs.ReaderPromise.{ReaderPromise}
+use Rattle.frame.specs.ReaderPromise.{ReaderPromise, SpoiltPromise}
 use Rattle.frame.specs.declared.direction.Direction.{Direction}
 use Rattle.frame.specs.declared.reader.ByteAnswer.{ByteAnswer}
 use Rattle.frame.specs.declared.reader.ByteAnswer.the-variants.{Waiting, Noise, Frame, Broken}
 use Rattle.frame.proofs.Cases.{cases}
+use Rattle.frame.proofs.Header.{header-least}
 use Rattle.frame.proofs.Taken.{taken-outside, taken-inside, taken-end}
 use Rattle.frame.proofs.Kept.{follows-all}
 
@@ -68,3 +70,19 @@ reader-promise = record {
   told = λ dir stream. follows-all dir [] stream (omega arith) .0;
   stands = λ dir stream. follows-all dir [] stream (omega arith) .1;
 }
+
+pub spoilt-promise : (dir : Direction) (place n b : ℕ) → SpoiltPromise dir place n b
+unfolding fedAt
+spoilt-promise dir place n b = record { past = past; early = λ h. rw (lt-ltb place (header dir) h) }
+  where
+    past : header dir + n ≤ place → fedAt dir (header dir) place n b ≡ fedAt dir (header dir) (header dir + n) n b
+    past h =
+        let some = header-least dir in
+        rw (
+          ne-eqb place 0 (λ e. absurd (omega (arith, h, some, e))),
+          ne-eqb (header dir + n) 0 (λ e. absurd (omega (arith, some, e))),
+          le-ltb place (header dir) (omega (arith, h)),
+          le-ltb (header dir + n) (header dir) (omega arith),
+          le-ltb place (header dir + n) h,
+          le-ltb (header dir + n) (header dir + n) (omega arith),
+        )

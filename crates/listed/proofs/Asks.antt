@@ -71,5 +71,5 @@ asked-promise = record {
   profile = other-profile;
   direction = other-direction;
   long = λ p d capture q dir e f h. rw (e, f, lt-ltb captureLimit (length capture) h);
-  listed = λ p d capture q dir e f h. rw (e, f, le-ltb captureLimit (length capture) h);
+  listed = λ p d capture q dir e f h. rw (e, f, le-ltb captureLimit (length capture) h) (refl, refl);
 }

@@ -24,4 +24,4 @@ pub record AskedPromise : Type 0 where
   pub long : (p d : ℕ) (capture : List ℕ) (profile : Profile) (dir : Direction) → profileOf p ≡ family.Profile profile
       → directionOf d ≡ directed.Direction dir → captureLimit < length capture → askedNumber (asked (p ∷ d ∷ capture)) ≡ 11
   pub listed : (p d : ℕ) (capture : List ℕ) (profile : Profile) (dir : Direction) → profileOf p ≡ family.Profile profile
-      → directionOf d ≡ directed.Direction dir → length capture ≤ captureLimit → asked (p ∷ d ∷ capture) ≡ Listing profile dir
+      → directionOf d ≡ directed.Direction dir → length capture ≤ captureLimit → (asked (p ∷ d ∷ capture) ≡ Listing profile dir) × (askedNumber (asked (p ∷ d ∷ capture)) ≡ 0)

@@ -1,5 +1,5 @@
 -- The first line that applies gives its number; a message comes exactly when none applies. A refusal changes nothing.
-use mathlib.Core.Path.{_≡_, refl, sym, _∙_}
+use mathlib.Core.Path.{_≡_, refl, ap, sym, _∙_}
 use mathlib.Core.List.{List, [], _∷_, _++_}
 use mathlib.Core.Logic.{_⊎_, inl, inr}
 use Prim.Native.Nat.{ℕ}
@@ -21,6 +21,7 @@ use Rattle.row.specs.declared.profile.Profile.{Profile}
 use Rattle.message.specs.Message.{readLines, messageOf, readOf, frameRead}
 use Rattle.message.specs.Write.{writeAnswered, writeLeft, writeLines, messageFrame, messageAnswered, messageLeft, fieldsAnswered, fieldsLeft}
 use Rattle.message.specs.Numbers.{readingNumber, readingPaper, frameNumber, framePaper, zeros}
+use Rattle.message.proofs.Trip.{paper-of}
 use Rattle.message.specs.OrderPromise.{OrderPromise, WriteOrder, WriteOrderPromise}
 use Rattle.message.specs.RefusalPromise.{RefusalPromise}
 use Rattle.message.specs.declared.read.Message.{Message}
@@ -101,6 +102,9 @@ pub refusal-promise : RefusalPromise
 unfolding messageAnswered messageLeft fieldsAnswered fieldsLeft profileOf
 refusal-promise = record {
   letter = λ l a s. rw (ne-eqb l 0x41 a, ne-eqb l 0x53 s);
+  named = (refl, refl);
+  paper = λ profile dir zone command ac body m e.
+      (ap readingNumber e, ap (λ (r : Reading). readingPaper profile r body) e ∙ paper-of profile dir zone command ac body m e);
   frame-zero = λ profile dir bytes body. no-frame-fields profile (frameRead profile dir bytes) body;
   zero = λ profile dir zone command ac body. no-fields profile (readOf profile dir zone command ac body) body;
   message-kept = λ profile buf at m body. kept (writeLines profile m body) buf at (messageFrame profile m body);

@@ -30,6 +30,8 @@ use Rattle.rules.specs.Judge.{isMissing, rowIn, profileZone, noRow, rowZone, wr
 use Rattle.message.specs.Content as content
 use Rattle.message.specs.Message.{isDenial, wrongCode, said, denial, readLines, messageOf, readOf, deniedData, fromReading, frameRead}
 use Rattle.message.specs.Write.{saidLines, saidData, notDenied, messageDirection, writeLines, messageFrame, writeAnswered, writeLeft, messageAnswered, messageLeft}
+use Rattle.message.specs.Numbers.{Paper, messagePaper}
+use Rattle.message.specs.RefusalPromise.{codeOn}
 use Rattle.message.specs.MessagePromise.{ReadsAs, MessagePromise}
 use Rattle.message.specs.declared.content.Content.{Content}
 use Rattle.message.specs.declared.content.Content.the-variants.{Request, Up, Down, On, Off, Toggle, LevellerOff, Number, Input}
@@ -234,18 +236,27 @@ module _ (profile : Profile) where
         (sym (ap (λ (l : List ℕ). bytesAt l at n) left-is ∙ ap (λ (k : ℕ). bytesAt (placed buf at bytes) at k) (taken .long) ∙ stands m body buf at (taken .room) .1))
         (record { message = reads m body (taken .passed); load = loads m body })
 
+abbrev paperOf : ℕ → ℕ → ℕ → List ℕ → Paper
+paperOf zone command code body = record { zone = zone; command = command; answer = code; body = body }
+
 -- what is read as a message, written again
 record Again (profile : Profile) (dir : Direction) (zone command ac : ℕ) (body : List ℕ) (m : Message) : Type 0 where
   way : messageDirection m ≡ dir
   lines : refuses (writeLines profile m body) ≡ false
   frame : messageFrame profile m body ≡ frameOf dir zone command ac body
+  paper : messagePaper profile m body ≡ paperOf zone command (codeOn dir ac) body
 
 again-of : (profile : Profile) (dir : Direction) (zone command ac : ℕ) (body : List ℕ) → refuses (readLines profile dir zone command ac body) ≡ false
     → Again profile dir zone command ac body (messageOf profile dir zone command ac body)
 unfolding frameOf
 again-of profile Command zone command ac body e =
     let j = judge-say profile Command zone command body e in
-    record { way = refl; lines = j .0; frame = ap (λ (l : List ℕ). frameOf Command zone command ac l) (j .1) }
+    record {
+      way = refl;
+      lines = j .0;
+      frame = ap (λ (l : List ℕ). frameOf Command zone command ac l) (j .1);
+      paper = ap (λ (l : List ℕ). paperOf zone command 0 l) (j .1);
+    }
 again-of profile Answer zone command ac body e = go (isDenial ac) refl (pass-first (wrongCode ac) (cond (isDenial ac) (tooLong body ∷ []) (judgeLines profile Answer zone command body)) e)
   where
     zero-code : (t : Bool) → not (t || false) ≡ false → t ≡ true
@@ -254,7 +265,7 @@ again-of profile Answer zone command ac body e = go (isDenial ac) refl (pass-fir
 
     go : (t : Bool) → isDenial ac ≡ t → (not (eqb ac 0x00 || isDenial ac) ≡ false) × (refuses (cond t (tooLong body ∷ []) (judgeLines profile Answer zone command body)) ≡ false)
         → Again profile Answer zone command ac body (cond t (message.Denied (denial zone command ac)) (message.Status (said profile Answer zone command body)))
-    go true d p = record { way = refl; lines = pass-both (notDenied ac) (tooLong body ∷ []) (rw d) (p .1); frame = refl }
+    go true d p = record { way = refl; lines = pass-both (notDenied ac) (tooLong body ∷ []) (rw d) (p .1); frame = refl; paper = refl }
     go false d p =
         let j = judge-say profile Answer zone command body (p .1) in
         let code : ac ≡ 0 = eqb-true ac 0 (zero-code (eqb ac 0x00) (rw d at (p .0))) in
@@ -262,7 +273,23 @@ again-of profile Answer zone command ac body e = go (isDenial ac) refl (pass-fir
           way = refl;
           lines = j .0;
           frame = ap (λ (l : List ℕ). frameOf Answer zone command 0 l) (j .1) ∙ ap (λ (k : ℕ). frameOf Answer zone command k body) (sym code);
+          paper = ap (λ (l : List ℕ). paperOf zone command 0 l) (j .1) ∙ ap (λ (k : ℕ). paperOf zone command k body) (sym code);
         }
+
+-- a message that was read has the fields that it was read from
+pub paper-of : (profile : Profile) (dir : Direction) (zone command ac : ℕ) (body : List ℕ) (m : Message) → readOf profile dir zone command ac body ≡ reading.Message m
+    → messagePaper profile m body ≡ paperOf zone command (codeOn dir ac) body
+unfolding readOf
+paper-of profile dir zone command ac body m e =
+    let w =
+    was-accepted (readLines profile dir zone command ac body) reading.Refused (reading.Message (messageOf profile dir zone command ac body)) (reading.Message m) e (differ m) in
+    ap (λ (k : Message). messagePaper profile k body) (sym (same (messageOf profile dir zone command ac body) m (w .1))) ∙ again-of profile dir zone command ac body (w .0) .paper
+  where
+    differ : (k : Message) (n : ℕ) → reading.Refused n ≡ reading.Message k → ⊥
+    differ k n f = let z : _≡_ {A = ℕ} 0 1 = cc in omega arith
+
+    same : (k l : Message) → reading.Message k ≡ reading.Message l → k ≡ l
+    same k l f = cc
 
 -- the fields and data of bytes that read as a message
 module _ (profile : Profile) (dir : Direction) (bytes : List ℕ) (m : Message) (e : frameRead profile dir bytes ≡ frame.Message m) where

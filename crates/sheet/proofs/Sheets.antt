@@ -14,7 +14,7 @@ use lib.Seq.{take-suc-set}
 use Rattle.row.specs.declared.profile.Profile.{Profile}
 use Rattle.sheet.specs.Line.{isLegal, isRepeated}
 use Rattle.sheet.specs.Lines.{sheetLimit, noLines, withLine, linesOf, withAll}
-use Rattle.sheet.specs.Check.{lowestFault, sheetVerdict}
+use Rattle.sheet.specs.Check.{lowestFault, sheetVerdict, verdictNumber, verdictPlace}
 use Rattle.sheet.specs.Computed.{faultOf}
 use Rattle.sheet.specs.SheetPromise.{AtFault, Sound, Lowest, AllSound, Says, SheetPromise}
 use Rattle.sheet.specs.declared.line.Line.{Line}
@@ -158,7 +158,7 @@ sheet-promise profile ls = record {
   long = λ h. says (sheetVerdict profile ls) 6 sheetLimit (long profile ls h);
   fault =
       λ h i n w. says (sheetVerdict profile ls) n i (short profile ls h ∙ refuses profile [] ls i n w ∙ ap (λ (k : ℕ). Refused n k) (zero-add i));
-  sound = λ h w. short profile ls h ∙ accepts profile [] ls w;
+  sound = λ h w. let e = short profile ls h ∙ accepts profile [] ls w in (e, (ap verdictNumber e, ap verdictPlace e));
   either = either profile [] ls;
   only = only profile ls;
   together = verdict-together profile ls;

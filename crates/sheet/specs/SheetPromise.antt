@@ -41,7 +41,7 @@ Says v n i = (verdictNumber v ≡ n) × (verdictPlace v ≡ i)
 pub record SheetPromise (profile : Profile) (ls : List Line) : Type 0 where
   pub long : sheetLimit < length ls → Says (sheetVerdict profile ls) 6 sheetLimit
   pub fault : length ls ≤ sheetLimit → (i n : ℕ) → Lowest profile [] ls i n → Says (sheetVerdict profile ls) n i
-  pub sound : length ls ≤ sheetLimit → AllSound profile [] ls → sheetVerdict profile ls ≡ Accepted
+  pub sound : length ls ≤ sheetLimit → AllSound profile [] ls → (sheetVerdict profile ls ≡ Accepted) × Says (sheetVerdict profile ls) 0 0
   pub either : ((i : ℕ) × (n : ℕ) × Lowest profile [] ls i n) ⊎ AllSound profile [] ls
   pub only : sheetVerdict profile ls ≡ Accepted → (length ls ≤ sheetLimit) × AllSound profile [] ls
   pub together : sheetVerdict profile (linesOf (withAll noLines ls)) ≡ sheetVerdict profile ls

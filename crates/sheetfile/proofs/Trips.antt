@@ -148,7 +148,7 @@ file-promise profile file = record {
 
 pub file-trip : (profile : Profile) (ls : List Line) → FileTrip profile ls
 unfolding fileVerdict lowestWrong records linesIn sheetVerdict lowestFault withAll
-file-trip profile ls = record { empty = refl; read = trip-read profile ls }
+file-trip profile ls = record { nothing = refl; empty = refl; read = trip-read profile ls }
 
 pub file-letter : (letter : ℕ) (file : List ℕ) → FileLetter letter file
 unfolding profileOf

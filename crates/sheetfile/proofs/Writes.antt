@@ -113,6 +113,7 @@ module _ (buf : List ℕ) (at : ℕ) (bytes : List ℕ) where
     kept = kept v;
     zero = none v;
     said = λ e h. rw e (fits h .0);
+    counted = λ e h. rw e (ap sheetWrittenNumber (fits h .0), ap sheetWrittenCount (fits h .0));
     there = λ e h. rw e (stands h);
     before = before v;
     after = after v;

@@ -6,7 +6,7 @@ use mathlib.Core.Bool.{true, false}
 use mathlib.Core.List.{List, [], _∷_}
 use mathlib.Core.Logic.{_⊎_}
 use Prim.Native.Nat.{ℕ, zero, suc, _+_, _*_, _<_}
-use lib.ListN.{length}
+use lib.ListN.{length, replicate}
 use Rattle.row.specs.Profile.{letterOf, profileOf}
 use Rattle.row.specs.declared.profile.Profile.{Profile}
 use Rattle.sheet.specs.Lines.{noLines, linesOf}
@@ -39,6 +39,8 @@ pub record FilePromise (profile : Profile) (file : List ℕ) : Type 0 where
   pub again : fileRead profile file .verdict ≡ Accepted → fileOf profile (linesOf (fileRead profile file .sheet)) ≡ file
 
 pub record FileTrip (profile : Profile) (ls : List Line) : Type 0 where
+  -- no lines are zeros throughout
+  pub nothing : noLines ≡ record { count = 0; lines = replicate 12 (record { zone = 0; command = 0; value = 0 }) }
   -- "An empty file is an empty sheet."
   pub empty : fileRead profile [] ≡ record { verdict = Accepted; sheet = noLines }
   -- an accepted sheet's file is read as the same lines, in order

@@ -23,6 +23,8 @@ pub record WrittenPromise (v : Verdict) (buf : List ℕ) (at : ℕ) (bytes : Lis
   pub kept : (sheetWrittenNumber (answered v buf at bytes) ≡ 0 → ⊥) → left v buf at bytes ≡ buf
   pub zero : (sheetWrittenNumber (answered v buf at bytes) ≡ 0 → ⊥) → sheetWrittenCount (answered v buf at bytes) ≡ 0
   pub said : v ≡ verdict.Accepted → at + length bytes ≤ length buf → answered v buf at bytes ≡ Bytes (length bytes)
+  pub counted : v ≡ verdict.Accepted → at + length bytes ≤ length buf
+      → (sheetWrittenNumber (answered v buf at bytes) ≡ 0) × (sheetWrittenCount (answered v buf at bytes) ≡ length bytes)
   pub there : v ≡ verdict.Accepted → at + length bytes ≤ length buf → take (length bytes) (drop at (left v buf at bytes)) ≡ bytes
   pub before : take at (left v buf at bytes) ≡ take at buf
   pub after : drop (at + length bytes) (left v buf at bytes) ≡ drop (at + length bytes) buf

@@ -65,4 +65,7 @@ refusal-promise t = record {
   long-signed = λ profile ls capture h.
       let r = capture-promise profile ls capture .long h in
       (ap signedNumber r, ap signedPlace r, ap signedYes r);
+  yes = λ ls e. (ap signedNumber e, ap signedPlace e, ap signedYes e);
+  no = λ ls e. (ap signedNumber e, ap signedPlace e, ap signedYes e);
+  fed = λ capture h. ap captureNumber (capture-promise (t .profile) [] capture .fed h t .1);
 }

@@ -19,6 +19,7 @@ use Rattle.signing.specs.Capture.{captureFed, captureSigned}
 use Rattle.tracker.specs.Numbers.{fedNumber, fedPaper}
 use Rattle.signing.specs.Numbers.{signedNumber, signedPlace, signedYes, captureNumber}
 use Rattle.tracker.specs.declared.kept.Tracker.{Tracker}
+use Rattle.signing.specs.declared.sign.Signed.the-variants.{Yes, No}
 
 pub record RefusalPromise (t : Tracker) : Type 0 where
   pub passed : (zone command ac : ℕ) (body : List ℕ) → fedNumber (fed t zone command ac body) ≡ readingNumber (answered t zone command ac body)
@@ -31,3 +32,7 @@ pub record RefusalPromise (t : Tracker) : Type 0 where
       → (captureNumber (captureFed t capture .answer) ≡ 11) × (captureFed t capture .tracker ≡ t)
   pub long-signed : (profile : Profile) (ls : List Line) (capture : List ℕ) → captureLimit < length capture
       → (signedNumber (captureSigned profile ls capture) ≡ 11) × (signedPlace (captureSigned profile ls capture) ≡ 0) × (signedYes (captureSigned profile ls capture) ≡ 0)
+  -- what is no refusal: 1 for yes and 0 for no
+  pub yes : (ls : List Line) → signOff t ls ≡ Yes → (signedNumber (signOff t ls) ≡ 0) × (signedPlace (signOff t ls) ≡ 0) × (signedYes (signOff t ls) ≡ 1)
+  pub no : (ls : List Line) → signOff t ls ≡ No → (signedNumber (signOff t ls) ≡ 0) × (signedPlace (signOff t ls) ≡ 0) × (signedYes (signOff t ls) ≡ 0)
+  pub fed : (capture : List ℕ) → length capture ≤ captureLimit → captureNumber (captureFed t capture .answer) ≡ 0

@@ -8,7 +8,7 @@ use lib.ListN.{length}
 use Rattle.frame.specs.Refusal.{noRoom}
 use Rattle.bytes.specs.Numbers.{writtenNumber, writtenCount}
 use Rattle.text.specs.Text.{textAnswered, textLeft}
-use Rattle.text.specs.Pieces.{lineLimit, pieceAnswered, pieceLeft}
+use Rattle.text.specs.Pieces.{lineLimit, pieceOf, pieceAnswered, pieceLeft}
 use Rattle.text.specs.Numbers.{pieceNumber, pieceCount}
 use Rattle.text.specs.RefusalPromise.{RefusalPromise}
 use Rattle.text.specs.declared.listing.Place.{Place}
@@ -25,8 +25,9 @@ piece : (input : List ℕ) (at : Place) (buf : List ℕ) → length buf < lineLi
     → (pieceNumber (pieceAnswered input at buf) ≡ 9) × (pieceCount (pieceAnswered input at buf) ≡ 0) × (pieceLeft input at buf ≡ buf)
 piece input at buf h = rw (lt-ltb (length buf) lineLimit h) (refl, refl, refl)
 
-piece-given : (input : List ℕ) (at : Place) (buf : List ℕ) → lineLimit ≤ length buf → pieceNumber (pieceAnswered input at buf) ≡ 0
-piece-given input at buf h = rw (le-ltb (length buf) lineLimit h)
+piece-given : (input : List ℕ) (at : Place) (buf : List ℕ) → lineLimit ≤ length buf
+    → (pieceNumber (pieceAnswered input at buf) ≡ 0) × (pieceCount (pieceAnswered input at buf) ≡ length (pieceOf input at (length buf) .text))
+piece-given input at buf h = rw (le-ltb (length buf) lineLimit h) (refl, refl)
 
 pub refusal-promise : RefusalPromise
 refusal-promise = record { text = text; text-written = text-written; piece = piece; piece-given = piece-given }

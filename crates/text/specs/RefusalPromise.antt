@@ -7,7 +7,7 @@ use lib.ListN.{length}
 use Rattle.frame.specs.Refusal.{noRoom}
 use Rattle.bytes.specs.Numbers.{writtenNumber, writtenCount}
 use Rattle.text.specs.Text.{textAnswered, textLeft}
-use Rattle.text.specs.Pieces.{lineLimit, pieceAnswered, pieceLeft}
+use Rattle.text.specs.Pieces.{lineLimit, pieceOf, pieceAnswered, pieceLeft}
 use Rattle.text.specs.Numbers.{pieceNumber, pieceCount}
 use Rattle.text.specs.declared.listing.Place.{Place}
 
@@ -20,4 +20,5 @@ pub record RefusalPromise : Type 0 where
   -- a piece is refused exactly for a buffer of less than 64 bytes
   pub piece : (input : List ℕ) (at : Place) (buf : List ℕ) → length buf < lineLimit
       → (pieceNumber (pieceAnswered input at buf) ≡ 9) × (pieceCount (pieceAnswered input at buf) ≡ 0) × (pieceLeft input at buf ≡ buf)
-  pub piece-given : (input : List ℕ) (at : Place) (buf : List ℕ) → lineLimit ≤ length buf → pieceNumber (pieceAnswered input at buf) ≡ 0
+  pub piece-given : (input : List ℕ) (at : Place) (buf : List ℕ) → lineLimit ≤ length buf
+      → (pieceNumber (pieceAnswered input at buf) ≡ 0) × (pieceCount (pieceAnswered input at buf) ≡ length (pieceOf input at (length buf) .text))
