@@ -23,39 +23,39 @@ one-lent v w = λ x y p q i. (one v (x .0) (y .0) (p .0) (q .0) i, one w (x .1) 
 pub direction-of-one : (letter : ℕ) → OneAnswer (λ x. x ≡ directionOf letter)
 direction-of-one letter = one (directionOf letter)
 
-pub new-one : (dir : Direction) → OneAnswer (λ x. x ≡ fresh dir)
-new-one dir = one (fresh dir)
+pub new-one : (direction : Direction) → OneAnswer (λ x. x ≡ fresh direction)
+new-one direction = one (fresh direction)
 
-pub header-one : (dir : Direction) → OneAnswer (λ x. x ≡ header dir)
-header-one dir = one (header dir)
+pub header-one : (direction : Direction) → OneAnswer (λ x. x ≡ header direction)
+header-one direction = one (header direction)
 
-pub feed-one : (r : Reader) (byte : ℕ) → OneAnswer (λ x. x ≡ fedOf r byte)
-feed-one r byte = one (fedOf r byte)
+pub feed-one : (self : Reader) (byte : ℕ) → OneAnswer (λ x. x ≡ fedOf self byte)
+feed-one self byte = one (fedOf self byte)
 
-pub take-part-one : (r : Reader) (bytes : List ℕ) → OneAnswer (λ x. x ≡ partOf r bytes)
-take-part-one r bytes = one (partOf r bytes)
+pub take-part-one : (reader : Reader) (bytes : List ℕ) → OneAnswer (λ x. x ≡ partOf reader bytes)
+take-part-one reader bytes = one (partOf reader bytes)
 
-pub next-event-one : (dir : Direction) (capture : List ℕ) (at : ℕ) → OneAnswer (λ x. x ≡ firstOf (eventsFrom dir capture at))
-next-event-one dir capture at = one (firstOf (eventsFrom dir capture at))
+pub next-event-one : (direction : Direction) (capture : List ℕ) (at : ℕ) → OneAnswer (λ x. x ≡ firstOf (eventsFrom direction capture at))
+next-event-one direction capture at = one (firstOf (eventsFrom direction capture at))
 
-pub capture-totals-one : (dir : Direction) (capture : List ℕ) → OneAnswer (λ x. x ≡ countedOf dir capture)
-capture-totals-one dir capture = one (countedOf dir capture)
+pub capture-totals-one : (direction : Direction) (capture : List ℕ) → OneAnswer (λ x. x ≡ countedOf direction capture)
+capture-totals-one direction capture = one (countedOf direction capture)
 
 pub capture-totals-by-letter-one : (letter : ℕ) (capture : List ℕ) → OneAnswer (λ x. x ≡ countedBy (directionOf letter) capture)
 capture-totals-by-letter-one letter capture = one (countedBy (directionOf letter) capture)
 
-pub frame-fields-one : (dir : Direction) (bytes : List ℕ) → OneAnswer (λ x. x ≡ fieldsOf dir bytes)
-frame-fields-one dir bytes = one (fieldsOf dir bytes)
+pub frame-fields-one : (direction : Direction) (bytes : List ℕ) → OneAnswer (λ x. x ≡ fieldsOf direction bytes)
+frame-fields-one direction bytes = one (fieldsOf direction bytes)
 
-pub frame-data-one : (dir : Direction) (bytes : List ℕ) → OneAnswer (λ x. x ≡ dataOf dir bytes)
-frame-data-one dir bytes = one (dataOf dir bytes)
+pub frame-data-one : (direction : Direction) (bytes : List ℕ) → OneAnswer (λ x. x ≡ dataOf direction bytes)
+frame-data-one direction bytes = one (dataOf direction bytes)
 
-pub bytes-at-one : (capture : List ℕ) (at n : ℕ) → OneAnswer (λ x. x ≡ bytesAt capture at n)
-bytes-at-one capture at n = one (bytesAt capture at n)
+pub bytes-at-one : (capture : List ℕ) (at length : ℕ) → OneAnswer (λ x. x ≡ bytesAt capture at length)
+bytes-at-one capture at length = one (bytesAt capture at length)
 
-pub last-bytes-one : (kept : List ℕ) (n : ℕ) → OneAnswer (λ x. x ≡ lastOf kept n)
-last-bytes-one kept n = one (lastOf kept n)
+pub last-bytes-one : (kept : List ℕ) (count : ℕ) → OneAnswer (λ x. x ≡ lastOf kept count)
+last-bytes-one kept count = one (lastOf kept count)
 
-pub write-raw-one : (dir : Direction) (buf : List ℕ) (at zone command code : ℕ) (body : List ℕ)
-    → OneAnswer (λ (x : Written × List ℕ). (x .0 ≡ rawAnswered dir buf at body) × (x .1 ≡ rawLeft dir buf at zone command code body))
-write-raw-one dir buf at zone command code body = one-lent (rawAnswered dir buf at body) (rawLeft dir buf at zone command code body)
+pub write-raw-one : (direction : Direction) (buf : List ℕ) (at zone command answer : ℕ) (body : List ℕ)
+    → OneAnswer (λ (x : Written × List ℕ). (x .0 ≡ rawAnswered direction buf at body) × (x .1 ≡ rawLeft direction buf at zone command answer body))
+write-raw-one direction buf at zone command answer body = one-lent (rawAnswered direction buf at body) (rawLeft direction buf at zone command answer body)

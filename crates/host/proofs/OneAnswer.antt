@@ -19,35 +19,35 @@ use Rattle.signing.specs.Capture.{captureFed, captureSigned}
 use Rattle.tracker.specs.declared.kept.Tracker.{Tracker}
 use Rattle.signing.specs.declared.capture.CaptureAnswer.{CaptureAnswer}
 
-pub with-lines-one : (ls : List Line) (s : Sheet) → OneAnswer (λ x. x ≡ withAll s ls)
-with-lines-one ls s = one (withAll s ls)
+pub with-lines-one : (lines : List Line) (from : Sheet) → OneAnswer (λ x. x ≡ withAll from lines)
+with-lines-one lines from = one (withAll from lines)
 
-pub check-sheet-one : (profile : Profile) (ls : List Line) → OneAnswer (λ x. x ≡ sheetVerdict profile ls)
-check-sheet-one profile ls = one (sheetVerdict profile ls)
+pub check-sheet-one : (profile : Profile) (lines : List Line) → OneAnswer (λ x. x ≡ sheetVerdict profile lines)
+check-sheet-one profile lines = one (sheetVerdict profile lines)
 
 -- a write: its answer and the buffer after it
-pub write-sheet-file-one : (profile : Profile) (ls : List Line) (buf : List ℕ) (at : ℕ)
-    → OneAnswer (λ (w : SheetWritten × List ℕ). (w .0 ≡ fileAnswered profile ls buf at) × (w .1 ≡ fileLeft profile ls buf at))
-write-sheet-file-one profile ls buf at = one-lent (fileAnswered profile ls buf at) (fileLeft profile ls buf at)
+pub write-sheet-file-one : (profile : Profile) (lines : List Line) (buf : List ℕ) (at : ℕ)
+    → OneAnswer (λ (x : SheetWritten × List ℕ). (x .0 ≡ fileAnswered profile lines buf at) × (x .1 ≡ fileLeft profile lines buf at))
+write-sheet-file-one profile lines buf at = one-lent (fileAnswered profile lines buf at) (fileLeft profile lines buf at)
 
-pub write-run-one : (profile : Profile) (ls : List Line) (buf : List ℕ) (at : ℕ)
-    → OneAnswer (λ (w : SheetWritten × List ℕ). (w .0 ≡ runAnswered profile ls buf at) × (w .1 ≡ runLeft profile ls buf at))
-write-run-one profile ls buf at = one-lent (runAnswered profile ls buf at) (runLeft profile ls buf at)
+pub write-run-one : (profile : Profile) (lines : List Line) (buf : List ℕ) (at : ℕ)
+    → OneAnswer (λ (x : SheetWritten × List ℕ). (x .0 ≡ runAnswered profile lines buf at) × (x .1 ≡ runLeft profile lines buf at))
+write-run-one profile lines buf at = one-lent (runAnswered profile lines buf at) (runLeft profile lines buf at)
 
-pub read-cell-one : (t : Tracker) (zone command : ℕ) → OneAnswer (λ x. x ≡ keptIn t zone command)
-read-cell-one t zone command = one (keptIn t zone command)
+pub read-cell-one : (tracker : Tracker) (zone command : ℕ) → OneAnswer (λ x. x ≡ keptIn tracker zone command)
+read-cell-one tracker zone command = one (keptIn tracker zone command)
 
 -- a tracker lent mutably: the answer, and the tracker after it
-pub feed-one : (t : Tracker) (zone command ac : ℕ) (body : List ℕ)
-    → OneAnswer (λ (x : Reading × Tracker). (x .0 ≡ fed t zone command ac body .reading) × (x .1 ≡ fed t zone command ac body .tracker))
-feed-one t zone command ac body = one-lent (fed t zone command ac body .reading) (fed t zone command ac body .tracker)
+pub feed-one : (tracker : Tracker) (zone command answer : ℕ) (body : List ℕ)
+    → OneAnswer (λ (x : Reading × Tracker). (x .0 ≡ fed tracker zone command answer body .reading) × (x .1 ≡ fed tracker zone command answer body .tracker))
+feed-one tracker zone command answer body = one-lent (fed tracker zone command answer body .reading) (fed tracker zone command answer body .tracker)
 
-pub feed-capture-one : (t : Tracker) (capture : List ℕ)
-    → OneAnswer (λ (x : CaptureAnswer × Tracker). (x .0 ≡ captureFed t capture .answer) × (x .1 ≡ captureFed t capture .tracker))
-feed-capture-one t capture = one-lent (captureFed t capture .answer) (captureFed t capture .tracker)
+pub feed-capture-one : (tracker : Tracker) (capture : List ℕ)
+    → OneAnswer (λ (x : CaptureAnswer × Tracker). (x .0 ≡ captureFed tracker capture .answer) × (x .1 ≡ captureFed tracker capture .tracker))
+feed-capture-one tracker capture = one-lent (captureFed tracker capture .answer) (captureFed tracker capture .tracker)
 
-pub sign-off-one : (t : Tracker) (ls : List Line) → OneAnswer (λ x. x ≡ signOff t ls)
-sign-off-one t ls = one (signOff t ls)
+pub sign-off-one : (tracker : Tracker) (lines : List Line) → OneAnswer (λ x. x ≡ signOff tracker lines)
+sign-off-one tracker lines = one (signOff tracker lines)
 
-pub sign-capture-one : (profile : Profile) (ls : List Line) (capture : List ℕ) → OneAnswer (λ x. x ≡ captureSigned profile ls capture)
-sign-capture-one profile ls capture = one (captureSigned profile ls capture)
+pub sign-capture-one : (profile : Profile) (lines : List Line) (capture : List ℕ) → OneAnswer (λ x. x ≡ captureSigned profile lines capture)
+sign-capture-one profile lines capture = one (captureSigned profile lines capture)

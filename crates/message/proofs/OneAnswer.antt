@@ -18,26 +18,29 @@ use Rattle.message.specs.Message.{readOf, frameRead, deniedIn}
 use Rattle.message.specs.Write.{messageAnswered, messageLeft, fieldsAnswered, fieldsLeft}
 use Rattle.message.specs.declared.read.Message.{Message}
 
-pub judge-one : (profile : Profile) (dir : Direction) (zone command : ℕ) (body : List ℕ) → OneAnswer (λ x. x ≡ judgedOf profile dir zone command body)
-judge-one profile dir zone command body = one (judgedOf profile dir zone command body)
+pub judge-one : (profile : Profile) (direction : Direction) (zone command : ℕ) (body : List ℕ)
+    → OneAnswer (λ x. x ≡ judgedOf profile direction zone command body)
+judge-one profile direction zone command body = one (judgedOf profile direction zone command body)
 
-pub read-message-one : (profile : Profile) (dir : Direction) (zone command ac : ℕ) (body : List ℕ) → OneAnswer (λ x. x ≡ readOf profile dir zone command ac body)
-read-message-one profile dir zone command ac body = one (readOf profile dir zone command ac body)
+pub read-message-one : (profile : Profile) (direction : Direction) (zone command answer : ℕ) (body : List ℕ)
+    → OneAnswer (λ x. x ≡ readOf profile direction zone command answer body)
+read-message-one profile direction zone command answer body = one (readOf profile direction zone command answer body)
 
-pub read-frame-one : (profile : Profile) (dir : Direction) (bytes : List ℕ) → OneAnswer (λ x. x ≡ frameRead profile dir bytes)
-read-frame-one profile dir bytes = one (frameRead profile dir bytes)
+pub read-frame-one : (profile : Profile) (direction : Direction) (bytes : List ℕ) → OneAnswer (λ x. x ≡ frameRead profile direction bytes)
+read-frame-one profile direction bytes = one (frameRead profile direction bytes)
 
-pub denied-data-one : (profile : Profile) (dir : Direction) (bytes : List ℕ) → OneAnswer (λ x. x ≡ deniedIn (frameRead profile dir bytes) (dataOf dir bytes))
-denied-data-one profile dir bytes = one (deniedIn (frameRead profile dir bytes) (dataOf dir bytes))
+pub denied-data-one : (profile : Profile) (direction : Direction) (bytes : List ℕ)
+    → OneAnswer (λ x. x ≡ deniedIn (frameRead profile direction bytes) (dataOf direction bytes))
+denied-data-one profile direction bytes = one (deniedIn (frameRead profile direction bytes) (dataOf direction bytes))
 
-pub write-message-one : (profile : Profile) (buf : List ℕ) (at : ℕ) (m : Message) (body : List ℕ)
-    → OneAnswer (λ (x : Written × List ℕ). (x .0 ≡ messageAnswered profile buf at m body) × (x .1 ≡ messageLeft profile buf at m body))
-write-message-one profile buf at m body = one-lent (messageAnswered profile buf at m body) (messageLeft profile buf at m body)
+pub write-message-one : (profile : Profile) (buf : List ℕ) (at : ℕ) (message : Message) (body : List ℕ)
+    → OneAnswer (λ (x : Written × List ℕ). (x .0 ≡ messageAnswered profile buf at message body) × (x .1 ≡ messageLeft profile buf at message body))
+write-message-one profile buf at message body = one-lent (messageAnswered profile buf at message body) (messageLeft profile buf at message body)
 
-pub write-fields-one : (profile : Profile) (dir : Direction) (buf : List ℕ) (at zone command ac : ℕ) (body : List ℕ)
-    → OneAnswer (λ (x : Written × List ℕ). (x .0 ≡ fieldsAnswered profile dir buf at zone command ac body) × (x .1 ≡ fieldsLeft profile dir buf at zone command ac body))
-write-fields-one profile dir buf at zone command ac body =
-    one-lent (fieldsAnswered profile dir buf at zone command ac body) (fieldsLeft profile dir buf at zone command ac body)
+pub write-fields-one : (profile : Profile) (direction : Direction) (buf : List ℕ) (at zone command answer : ℕ) (body : List ℕ)
+    → OneAnswer (λ (x : Written × List ℕ). (x .0 ≡ fieldsAnswered profile direction buf at zone command answer body) × (x .1 ≡ fieldsLeft profile direction buf at zone command answer body))
+write-fields-one profile direction buf at zone command answer body =
+    one-lent (fieldsAnswered profile direction buf at zone command answer body) (fieldsLeft profile direction buf at zone command answer body)
 
 -- of the rows below
 pub profile-of-one : (letter : ℕ) → OneAnswer (λ x. x ≡ profileOf letter)
@@ -73,5 +76,5 @@ is-answer-one row code = one (isAnswer row code)
 pub is-word-one : (row : Row) (byte : ℕ) → OneAnswer (λ x. x ≡ isWord row byte)
 is-word-one row byte = one (isWord row byte)
 
-pub length-fits-one : (dir : Direction) (row : Row) (count : ℕ) → OneAnswer (λ x. x ≡ lengthOf dir row count)
-length-fits-one dir row count = one (lengthOf dir row count)
+pub length-fits-one : (direction : Direction) (row : Row) (length : ℕ) → OneAnswer (λ x. x ≡ lengthOf direction row length)
+length-fits-one direction row length = one (lengthOf direction row length)

@@ -17,8 +17,8 @@ use Rattle.sheet.specs.declared.line.Line.{Line}
 use Rattle.sheet.specs.declared.lines.Sheet.{Sheet}
 use Rattle.sheetfile.specs.declared.write.SheetWritten.{SheetWritten}
 
-pub is-legal-one : (profile : Profile) (l : Line) → OneAnswer (λ x. x ≡ isLegal profile l)
-is-legal-one profile l = one (isLegal profile l)
+pub is-legal-one : (profile : Profile) (line : Line) → OneAnswer (λ x. x ≡ isLegal profile line)
+is-legal-one profile line = one (isLegal profile line)
 
 pub is-sheet-value-one : (row : Row) (value : ℕ) → OneAnswer (λ x. x ≡ isSheetValue row value)
 is-sheet-value-one row value = one (isSheetValue row value)
@@ -26,11 +26,11 @@ is-sheet-value-one row value = one (isSheetValue row value)
 pub no-lines-one : OneAnswer (λ x. x ≡ noLines)
 no-lines-one = one noLines
 
-pub with-line-one : (s : Sheet) (l : Line) → OneAnswer (λ x. x ≡ withLine s l)
-with-line-one s l = one (withLine s l)
+pub with-line-one : (sheet : Sheet) (line : Line) → OneAnswer (λ x. x ≡ withLine sheet line)
+with-line-one sheet line = one (withLine sheet line)
 
-pub checked-one : (profile : Profile) (s : Sheet) → OneAnswer (λ x. x ≡ sheetVerdict profile (linesOf s))
-checked-one profile s = one (sheetVerdict profile (linesOf s))
+pub checked-one : (profile : Profile) (sheet : Sheet) → OneAnswer (λ x. x ≡ sheetVerdict profile (linesOf sheet))
+checked-one profile sheet = one (sheetVerdict profile (linesOf sheet))
 
 pub read-file-one : (profile : Profile) (file : List ℕ) → OneAnswer (λ x. x ≡ fileRead profile file)
 read-file-one profile file = one (fileRead profile file)
@@ -42,18 +42,18 @@ pub check-file-one : (letter : ℕ) (file : List ℕ) → OneAnswer (λ x. x ≡
 check-file-one letter file = one (fileVerdictBy (profileOf letter) file)
 
 -- a write: its answer and the buffer after it
-pub put-file-one : (profile : Profile) (s : Sheet) (buf : List ℕ) (at : ℕ)
-    → OneAnswer (λ (w : SheetWritten × List ℕ). (w .0 ≡ fileAnswered profile (linesOf s) buf at) × (w .1 ≡ fileLeft profile (linesOf s) buf at))
-put-file-one profile s buf at = one-lent (fileAnswered profile (linesOf s) buf at) (fileLeft profile (linesOf s) buf at)
+pub put-file-one : (buf : List ℕ) (at : ℕ) (profile : Profile) (sheet : Sheet)
+    → OneAnswer (λ (x : SheetWritten × List ℕ). (x .0 ≡ fileAnswered profile (linesOf sheet) buf at) × (x .1 ≡ fileLeft profile (linesOf sheet) buf at))
+put-file-one buf at profile sheet = one-lent (fileAnswered profile (linesOf sheet) buf at) (fileLeft profile (linesOf sheet) buf at)
 
-pub put-run-one : (profile : Profile) (s : Sheet) (buf : List ℕ) (at : ℕ)
-    → OneAnswer (λ (w : SheetWritten × List ℕ). (w .0 ≡ runAnswered profile (linesOf s) buf at) × (w .1 ≡ runLeft profile (linesOf s) buf at))
-put-run-one profile s buf at = one-lent (runAnswered profile (linesOf s) buf at) (runLeft profile (linesOf s) buf at)
+pub put-run-one : (buf : List ℕ) (at : ℕ) (profile : Profile) (sheet : Sheet)
+    → OneAnswer (λ (x : SheetWritten × List ℕ). (x .0 ≡ runAnswered profile (linesOf sheet) buf at) × (x .1 ≡ runLeft profile (linesOf sheet) buf at))
+put-run-one buf at profile sheet = one-lent (runAnswered profile (linesOf sheet) buf at) (runLeft profile (linesOf sheet) buf at)
 
 pub copy-file-one : (letter : ℕ) (file buf : List ℕ) (at : ℕ)
-    → OneAnswer (λ (w : SheetWritten × List ℕ). (w .0 ≡ copyAnswered (profileOf letter) file buf at) × (w .1 ≡ copyLeft (profileOf letter) file buf at))
+    → OneAnswer (λ (x : SheetWritten × List ℕ). (x .0 ≡ copyAnswered (profileOf letter) file buf at) × (x .1 ≡ copyLeft (profileOf letter) file buf at))
 copy-file-one letter file buf at = one-lent (copyAnswered (profileOf letter) file buf at) (copyLeft (profileOf letter) file buf at)
 
 pub run-of-file-one : (letter : ℕ) (file buf : List ℕ) (at : ℕ)
-    → OneAnswer (λ (w : SheetWritten × List ℕ). (w .0 ≡ fileRunAnswered (profileOf letter) file buf at) × (w .1 ≡ fileRunLeft (profileOf letter) file buf at))
+    → OneAnswer (λ (x : SheetWritten × List ℕ). (x .0 ≡ fileRunAnswered (profileOf letter) file buf at) × (x .1 ≡ fileRunLeft (profileOf letter) file buf at))
 run-of-file-one letter file buf at = one-lent (fileRunAnswered (profileOf letter) file buf at) (fileRunLeft (profileOf letter) file buf at)

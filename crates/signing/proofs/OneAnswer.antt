@@ -22,20 +22,20 @@ row-place-one profile command = one (placeOf profile command)
 pub new-tracker-one : (profile : Profile) → OneAnswer (λ x. x ≡ fresh profile)
 new-tracker-one profile = one (fresh profile)
 
-pub kept-in-one : (t : Tracker) (zone command : ℕ) → OneAnswer (λ x. x ≡ keptIn t zone command)
-kept-in-one t zone command = one (keptIn t zone command)
+pub kept-in-one : (tracker : Tracker) (zone command : ℕ) → OneAnswer (λ x. x ≡ keptIn tracker zone command)
+kept-in-one tracker zone command = one (keptIn tracker zone command)
 
-pub after-answer-one : (t : Tracker) (zone command ac : ℕ) (body : List ℕ) → OneAnswer (λ x. x ≡ fed t zone command ac body)
-after-answer-one t zone command ac body = one (fed t zone command ac body)
+pub after-answer-one : (tracker : Tracker) (zone command answer : ℕ) (body : List ℕ) → OneAnswer (λ x. x ≡ fed tracker zone command answer body)
+after-answer-one tracker zone command answer body = one (fed tracker zone command answer body)
 
-pub after-capture-one : (t : Tracker) (capture : List ℕ) → OneAnswer (λ x. x ≡ captureFed t capture)
-after-capture-one t capture = one (captureFed t capture)
+pub after-capture-one : (tracker : Tracker) (capture : List ℕ) → OneAnswer (λ x. x ≡ captureFed tracker capture)
+after-capture-one tracker capture = one (captureFed tracker capture)
 
-pub sign-sheet-one : (t : Tracker) (s : Sheet) → OneAnswer (λ x. x ≡ signOff t (linesOf s))
-sign-sheet-one t s = one (signOff t (linesOf s))
+pub sign-sheet-one : (tracker : Tracker) (sheet : Sheet) → OneAnswer (λ x. x ≡ signOff tracker (linesOf sheet))
+sign-sheet-one tracker sheet = one (signOff tracker (linesOf sheet))
 
-pub capture-signs-one : (profile : Profile) (s : Sheet) (capture : List ℕ) → OneAnswer (λ x. x ≡ captureSigned profile (linesOf s) capture)
-capture-signs-one profile s capture = one (captureSigned profile (linesOf s) capture)
+pub capture-signs-one : (profile : Profile) (sheet : Sheet) (capture : List ℕ) → OneAnswer (λ x. x ≡ captureSigned profile (linesOf sheet) capture)
+capture-signs-one profile sheet capture = one (captureSigned profile (linesOf sheet) capture)
 
 pub sign-file-one : (letter : ℕ) (file capture : List ℕ) → OneAnswer (λ x. x ≡ fileSignedBy (profileOf letter) file capture)
 sign-file-one letter file capture = one (fileSignedBy (profileOf letter) file capture)
