@@ -1,25 +1,7 @@
 // The arguments of a line, character by character, and what they are.
 use bytes::fields::bytes_at;
 ghost use mathlib.Core.Path.{_≡_};
-ghost use Rattle.words.specs.Arguments.{
-  noneOf,
-  letterIn,
-  badOf,
-  closedOf,
-  openedOf,
-  namedOf,
-  dashedOf,
-  digitOf,
-  inWordOf,
-  takenOf,
-  keptOf,
-  argumentsIn,
-  bytesIn,
-  argumentIn,
-  byteOf,
-  longerBy,
-  numberOf,
-};
+ghost use Rattle.words.specs.Arguments.{noneOf, letterIn, badOf, closedOf, openedOf, namedOf, dashedOf, digitOf, inWordOf, takenOf, keptOf, argumentsIn, bytesIn, argumentIn, byteOf, longerBy, numberOf};
 
 // The most arguments that an operation has.
 pub(crate) const MOST: usize = 13;
