@@ -1,4 +1,4 @@
--- The table of numbers that the code has is the table of rows, and a walk along it finds the first row.
+-- Lines of numbers that write the table out, and how a walk along it finds the first row.
 use mathlib.Core.Path.{_≡_, refl, ap, sym, _∙_, subst}
 use mathlib.Core.Bool.{Bool, true, false, cond, _&&_}
 use mathlib.Core.List.{List, [], _∷_, map}
@@ -15,37 +15,12 @@ use Rattle.row.specs.Computed.{rowFrom}
 use Rattle.row.specs.declared.table.Row.{Row}
 use Rattle.row.specs.declared.table.Found.the-variants as found
 
--- the numbers, as the code has them
-unfoldable pub numbers : List (List ℕ)
-numbers =
-    (0x41 ∷ 0x0F ∷ 1 ∷ 0 ∷ 0x00 ∷ 0x01 ∷ 1 ∷ 0 ∷ 1 ∷ 0 ∷ 0 ∷ 0 ∷ 0 ∷ 0 ∷ [])
-    ∷ (0x41 ∷ 0x10 ∷ 1 ∷ 0 ∷ 0x00 ∷ 0x08 ∷ 1 ∷ 0 ∷ 1 ∷ 0 ∷ 0 ∷ 0 ∷ 0 ∷ 0 ∷ [])
-    ∷ (0x41 ∷ 0x11 ∷ 1 ∷ 0 ∷ 0x00 ∷ 0x05 ∷ 1 ∷ 0 ∷ 1 ∷ 0 ∷ 0 ∷ 0 ∷ 0 ∷ 0 ∷ [])
-    ∷ (0x41 ∷ 0x37 ∷ 3 ∷ 0 ∷ 0x00 ∷ 0x02 ∷ 1 ∷ 0 ∷ 1 ∷ 2 ∷ 0 ∷ 0 ∷ 0 ∷ 0 ∷ [])
-    ∷ (0x41 ∷ 0x38 ∷ 3 ∷ 1 ∷ 0x00 ∷ 0x02 ∷ 1 ∷ 0 ∷ 1 ∷ 0 ∷ 0 ∷ 0 ∷ 0 ∷ 1 ∷ [])
-    ∷ (0x41 ∷ 0x39 ∷ 3 ∷ 2 ∷ 0x00 ∷ 0x0A ∷ 0xFF ∷ 0xFF ∷ 1 ∷ 1 ∷ 0 ∷ 0 ∷ 1 ∷ 1 ∷ [])
-    ∷ (0x41 ∷ 0x3A ∷ 3 ∷ 2 ∷ 0x00 ∷ 0x0F ∷ 0x81 ∷ 0x8F ∷ 1 ∷ 1 ∷ 0 ∷ 1 ∷ 0 ∷ 1 ∷ [])
-    ∷ (0x41 ∷ 0x44 ∷ 3 ∷ 0 ∷ 0x00 ∷ 0x08 ∷ 1 ∷ 0 ∷ 1 ∷ 0 ∷ 0 ∷ 0 ∷ 0 ∷ 0 ∷ [])
-    ∷ (0x41 ∷ 0x45 ∷ 3 ∷ 2 ∷ 0x00 ∷ 0x00 ∷ 0x81 ∷ 0x8A ∷ 1 ∷ 1 ∷ 0 ∷ 1 ∷ 0 ∷ 1 ∷ [])
-    ∷ (0x41 ∷ 0x46 ∷ 3 ∷ 2 ∷ 0x00 ∷ 0x0A ∷ 0x81 ∷ 0x8A ∷ 1 ∷ 1 ∷ 0 ∷ 1 ∷ 0 ∷ 1 ∷ [])
-    ∷ (0x53 ∷ 0x0D ∷ 2 ∷ 1 ∷ 0x00 ∷ 0x63 ∷ 1 ∷ 0 ∷ 1 ∷ 1 ∷ 0 ∷ 0 ∷ 0 ∷ 1 ∷ [])
-    ∷ (0x53 ∷ 0x0E ∷ 2 ∷ 1 ∷ 0x00 ∷ 0x01 ∷ 1 ∷ 0 ∷ 1 ∷ 3 ∷ 0 ∷ 0 ∷ 0 ∷ 1 ∷ [])
-    ∷ (0x53 ∷ 0x0F ∷ 1 ∷ 0 ∷ 0x01 ∷ 0x03 ∷ 0x05 ∷ 0x06 ∷ 1 ∷ 0 ∷ 1 ∷ 0 ∷ 0 ∷ 0 ∷ [])
-    ∷ (0x53 ∷ 0x37 ∷ 2 ∷ 1 ∷ 0x00 ∷ 0x06 ∷ 0xA0 ∷ 0xA0 ∷ 1 ∷ 0 ∷ 0 ∷ 0 ∷ 0 ∷ 0 ∷ [])
-    ∷ (0x53 ∷ 0x3B ∷ 2 ∷ 0 ∷ 0x00 ∷ 0x0C ∷ 0x81 ∷ 0x8C ∷ 1 ∷ 0 ∷ 0 ∷ 1 ∷ 0 ∷ 0 ∷ [])
-    ∷ (0x53 ∷ 0x44 ∷ 2 ∷ 0 ∷ 0x00 ∷ 0x0A ∷ 1 ∷ 0 ∷ 1 ∷ 0 ∷ 0 ∷ 0 ∷ 0 ∷ 0 ∷ [])
-    ∷ (0x53 ∷ 0x5A ∷ 2 ∷ 0 ∷ 0x00 ∷ 0x01 ∷ 1 ∷ 0 ∷ 1 ∷ 0 ∷ 0 ∷ 0 ∷ 0 ∷ 0 ∷ [])
-    ∷ (0x53 ∷ 0x5B ∷ 2 ∷ 2 ∷ 0x00 ∷ 0x00 ∷ 0x02 ∷ 0x09 ∷ 1 ∷ 0 ∷ 0 ∷ 0 ∷ 0 ∷ 1 ∷ [])
-    ∷ (0x53 ∷ 0x5C ∷ 2 ∷ 1 ∷ 0x00 ∷ 0x63 ∷ 1 ∷ 0 ∷ 1 ∷ 0 ∷ 0 ∷ 0 ∷ 0 ∷ 1 ∷ [])
-    ∷ []
+-- lines of numbers, as the code has them, write out the table
+pub record WritesOut (ns : List (List ℕ)) : Type 0 where
+  pub all : map rowFrom ns ≡ table
 
--- the two tables agree, over all of their entries
-pub agree : map rowFrom numbers ≡ table
-unfolding numbers table
-agree = refl
-
-pub row-at : (i : ℕ) → getD table i (rowFrom []) ≡ rowFrom (getD numbers i [])
-row-at i = ap (λ (rs : List Row). getD rs i (rowFrom [])) (sym agree) ∙ List·getD-map rowFrom numbers i []
+pub row-at : (ns : List (List ℕ)) → WritesOut ns → (i : ℕ) → getD table i (rowFrom []) ≡ rowFrom (getD ns i [])
+row-at ns w i = ap (λ (rs : List Row). getD rs i (rowFrom [])) (sym (w .all)) ∙ List·getD-map rowFrom ns i []
 
 both : (s t : Bool) → s && t ≡ true → t ≡ true
 both true t e = e

@@ -4,18 +4,18 @@ use mathlib.Core.Path.{ap}
 use mathlib.Core.Logic.{⊎-elim}
 use Rattle.row.specs.Computed.{rowFrom}
 use Rattle.row.specs.declared.table.Row.{Row}
-use mathlib.Core.Path.{_≡_, sym, _∙_}
+use mathlib.Core.Path.{_≡_, refl, sym, _∙_}
 use Prim.Native.Nat.{_+_, _-_, _≤_}
 use borrow.Author.Needs.{needs}
 use lib.ListN.{drop}
 use native.Mathlib.Omega.{arith}
 use Rattle.row.specs.Table.{table, firstPlace}
-use Rattle.row.proofs.Rows.{numbers, row-at, hit, miss-profile, miss-code, passed}
+use Rattle.row.proofs.Rows.{WritesOut, row-at, hit, miss-profile, miss-code, passed}
 use Rattle.row.proofs.table.row_place.Statement.{statement}
 use Rattle.row.proofs.table.row_place.Tie as tie
 
 abbrev Inv-loop : tie.InvT-loop
-Inv-loop command letter rows i₀ i = (i ≤ 19) × (firstPlace table letter command ≡ i + firstPlace (drop i table) letter command)
+Inv-loop command letter rows i₀ i = (i ≤ 19) × (firstPlace table letter command ≡ i + firstPlace (drop i table) letter command) × WritesOut rows
 
 abbrev μ-loop : tie.MeasureT-loop
 μ-loop command letter rows i₀ i = 19 - i
@@ -24,7 +24,8 @@ letter-of-requires : tie.Need-letter-of-requires Inv-loop μ-loop
 letter-of-requires c κs = search needs
 
 loop-holds : tie.Need-loop-holds Inv-loop μ-loop
-loop-holds c = search needs
+unfolding table
+loop-holds c = (search needs, search needs, record { all = refl })
 
 mul-numbers : tie.Need-mul-numbers Inv-loop μ-loop
 mul-numbers c = search needs
@@ -39,11 +40,11 @@ array-read-if2 : tie.Need-array-read-if2 Inv-loop μ-loop
 array-read-if2 c = search needs
 
 returns : tie.Need-returns Inv-loop μ-loop
-unfolding table numbers
+unfolding table
 returns c =
     let l = c .before .before .before .before .loop in
     let letter = c .before .before .before .before .before .letter-of in
-    let line = row-at (l .i) in
+    let line = row-at _ (l .inv .2) (l .i) in
     let here =
     hit table (letter .result) _ (l .i) (rowFrom []) (search needs) (ap (λ (r : Row). r .profile) line ∙ c .before .if1 .taken) (ap (λ (r : Row). r .code) line ∙ c .if2 .taken) in
     rw (sym (letter .ensures)) (omega (arith, l .inv .1, here))
@@ -55,17 +56,18 @@ loop-less : tie.Need-loop-less Inv-loop μ-loop
 loop-less c = search needs
 
 loop-again : tie.Need-loop-again Inv-loop μ-loop
-unfolding table numbers
+unfolding table
 loop-again c =
     let l = c .before .before .before .loop in
     let letter = c .before .before .before .before .letter-of .result in
-    let line = row-at (l .i) in (
+    let line = row-at _ (l .inv .2) (l .i) in (
       search needs,
       l .inv .1
           ∙ ⊎-elim
           (λ w. miss-code table letter _ (l .i) (rowFrom []) (search needs) (ap (λ (r : Row). r .profile) line ∙ w .0 .taken) (λ e. w .1 .left (sym (ap (λ (r : Row). r .code) line) ∙ e)))
           (λ w. miss-profile table letter _ (l .i) (rowFrom []) (search needs) (λ e. w .left (sym (ap (λ (r : Row). r .profile) line) ∙ e)))
           (c .if1 .came),
+      l .inv .2,
     )
 
 returns-2 : tie.Need-returns-2 Inv-loop μ-loop
