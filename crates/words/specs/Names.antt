@@ -1,102 +1,141 @@
 -- tests/README.md, the table of 'Operations': the names, and what is an argument of each.
-use Prim.Native.Nat.{ℕ, zero, suc, _+_, _*_, _%_, _/_}
+use Prim.Native.Nat.{ℕ, zero, suc, _+_, _*_, _%_, _/_, _^_}
 use mathlib.Core.Bool.{Bool, true, false, cond}
-use mathlib.Core.List.{List, [], _∷_}
+use Prim.Native.Char.{code}
+use Prim.Native.String as string
+use Prim.Native.String.{String}
+use mathlib.Core.List.{List, [], _∷_, map}
 use lib.Dec.{eqb, leb, ltb}
 use lib.ListN.{length, getD}
-use Rattle.words.specs.Arguments.{argumentIn, numberOf}
+use Rattle.words.specs.Arguments.{longerBy, argumentIn, numberOf}
 
--- the names in the order of their numbers: the bytes of their letters
+-- a name as a number: the bytes of its letters, the first the most significant
+unfoldable pub nameOf : ℕ → String → ℕ
+nameOf v string.[] = v
+nameOf v (string._∷_ c s) = nameOf (longerBy v (code c)) s
+
+-- the names in the order of their numbers
 unfoldable pub names : List ℕ
 names =
-    0x66656564 ∷
-    0x7061727473 ∷
-    0x6576656E7473 ∷
-    0x6576656E74 ∷
-    0x746F74616C73 ∷
-    0x6669656C6473 ∷
-    0x70617274 ∷
-    0x6C617374 ∷
-    0x7061697273 ∷
-    0x6672616D65 ∷
-    0x72656164 ∷
-    0x616C6C ∷
-    0x636F646573 ∷
-    0x6E756D626572 ∷
-    0x636F6465 ∷
-    0x706C61696E ∷
-    0x726F77 ∷
-    0x6C6567616C ∷
-    0x636865636B ∷
-    0x7369676E ∷
-    0x63656C6C ∷
-    0x7772697465 ∷
-    0x73656E64 ∷
-    0x726177 ∷
-    0x636F7079 ∷
-    0x72756E ∷
-    0x646563696D616C ∷
-    0x686578 ∷
-    0x6C697374696E67 ∷
-    0x706965636573 ∷
-    []
+    map (nameOf 0)
+    ("feed" ∷
+    "parts" ∷
+    "events" ∷
+    "event" ∷
+    "totals" ∷
+    "fields" ∷
+    "part" ∷
+    "last" ∷
+    "pairs" ∷
+    "frame" ∷
+    "read" ∷
+    "all" ∷
+    "codes" ∷
+    "number" ∷
+    "code" ∷
+    "plain" ∷
+    "row" ∷
+    "legal" ∷
+    "check" ∷
+    "sign" ∷
+    "cell" ∷
+    "write" ∷
+    "send" ∷
+    "raw" ∷
+    "copy" ∷
+    "run" ∷
+    "decimal" ∷
+    "hex" ∷
+    "listing" ∷
+    "pieces" ∷
+    [])
 
--- the arguments of each: a digit for each, with zeros behind
+-- what an argument may be: one byte, two bytes, a number of at most 8 bytes, one below 65,536, a length of at most 4,096, any bytes,
+-- and one or more of any bytes
+abbrev pub one : ℕ
+one = 1
+
+abbrev pub two : ℕ
+two = 2
+
+abbrev pub number : ℕ
+number = 3
+
+abbrev pub small : ℕ
+small = 4
+
+abbrev pub size : ℕ
+size = 5
+
+abbrev pub bytes : ℕ
+bytes = 6
+
+abbrev pub parts : ℕ
+parts = 7
+
+-- kinds as one number, a hex digit for each of eleven, with zeros behind the last
+unfoldable pub packed : ℕ → List ℕ → ℕ
+packed zero kinds = 0
+packed (suc n) [] = 0
+packed (suc n) (k ∷ ks) = k * 16 ^ n + packed n ks
+
+-- the arguments of each
 unfoldable pub shapes : List ℕ
 shapes =
-    0x16000000000 ∷
-    0x17000000000 ∷
-    0x16000000000 ∷
-    0x13600000000 ∷
-    0x16000000000 ∷
-    0x16000000000 ∷
-    0x33600000000 ∷
-    0x36000000000 ∷
-    0x10000000000 ∷
-    0x11600000000 ∷
-    0x11111600000 ∷
-    0x11000000000 ∷
-    0x11160000000 ∷
-    0x10000000000 ∷
-    0x20000000000 ∷
-    0x20000000000 ∷
-    0x11000000000 ∷
-    0x11110000000 ∷
-    0x16000000000 ∷
-    0x16600000000 ∷
-    0x16110000000 ∷
-    0x15311111216 ∷
-    0x11531116000 ∷
-    0x15311160000 ∷
-    0x15360000000 ∷
-    0x15360000000 ∷
-    0x53400000000 ∷
-    0x53100000000 ∷
-    0x60000000000 ∷
-    0x56000000000 ∷
-    []
+    map (packed 11)
+    ((one ∷ bytes ∷ []) ∷  -- feed
+    (one ∷ parts ∷ []) ∷  -- parts
+    (one ∷ bytes ∷ []) ∷  -- events
+    (one ∷ number ∷ bytes ∷ []) ∷  -- event
+    (one ∷ bytes ∷ []) ∷  -- totals
+    (one ∷ bytes ∷ []) ∷  -- fields
+    (number ∷ number ∷ bytes ∷ []) ∷  -- part
+    (number ∷ bytes ∷ []) ∷  -- last
+    (one ∷ []) ∷  -- pairs
+    (one ∷ one ∷ bytes ∷ []) ∷  -- frame
+    (one ∷ one ∷ one ∷ one ∷ one ∷ bytes ∷ []) ∷  -- read
+    (one ∷ one ∷ []) ∷  -- all
+    (one ∷ one ∷ one ∷ bytes ∷ []) ∷  -- codes
+    (one ∷ []) ∷  -- number
+    (two ∷ []) ∷  -- code
+    (two ∷ []) ∷  -- plain
+    (one ∷ one ∷ []) ∷  -- row
+    (one ∷ one ∷ one ∷ one ∷ []) ∷  -- legal
+    (one ∷ bytes ∷ []) ∷  -- check
+    (one ∷ bytes ∷ bytes ∷ []) ∷  -- sign
+    (one ∷ bytes ∷ one ∷ one ∷ []) ∷  -- cell
+    (one ∷ size ∷ number ∷ one ∷ one ∷ one ∷ one ∷ one ∷ two ∷ one ∷ bytes ∷ []) ∷  -- write
+    (one ∷ one ∷ size ∷ number ∷ one ∷ one ∷ one ∷ bytes ∷ []) ∷  -- send
+    (one ∷ size ∷ number ∷ one ∷ one ∷ one ∷ bytes ∷ []) ∷  -- raw
+    (one ∷ size ∷ number ∷ bytes ∷ []) ∷  -- copy
+    (one ∷ size ∷ number ∷ bytes ∷ []) ∷  -- run
+    (size ∷ number ∷ small ∷ []) ∷  -- decimal
+    (size ∷ number ∷ one ∷ []) ∷  -- hex
+    (bytes ∷ []) ∷  -- listing
+    (size ∷ bytes ∷ []) ∷  -- pieces
+    [])
 
 -- the place of a name; behind the last where it is none
 unfoldable pub find : List ℕ → ℕ → ℕ → ℕ
 find [] name i = i
 find (x ∷ xs) name i = cond (eqb x name) i (find xs name (suc i))
 
--- an argument by its digit: 1 one byte, 2 two bytes, 3 a number, 4 one below 65,536, 5 a length of at most 4,096, 6 any bytes
+-- whether an argument is of a kind
 unfoldable pub fitsOne : List ℕ → ℕ → Bool
-fitsOne bytes kind =
+fitsOne argument kind =
     cond
-    (eqb kind 6)
+    (eqb kind bytes)
     true
     (cond
-    (eqb kind 1)
-    (eqb (length bytes) 1)
+    (eqb kind one)
+    (eqb (length argument) 1)
     (cond
-    (eqb kind 2)
-    (eqb (length bytes) 2)
+    (eqb kind two)
+    (eqb (length argument) 2)
     (cond
-    (ltb 8 (length bytes))
+    (ltb 8 (length argument))
     false
-    (cond (eqb kind 4) (ltb (numberOf 0 bytes) 65536) (cond (eqb kind 5) (leb (numberOf 0 bytes) 4096) true)))))
+    (cond (eqb kind small) (ltb (numberOf 0 argument) 65536) (cond (eqb kind size) (leb (numberOf 0 argument) 4096) true)))))
 
 -- by a digit of the shape: 0 the arguments do not fit, 1 they do, 2 as those behind do
 unfoldable pub fitsAt : List ℕ → List ℕ → ℕ → ℕ → ℕ → ℕ
@@ -105,7 +144,7 @@ fitsAt space ends count kind place =
     (eqb kind 0)
     (cond (eqb count place) 1 0)
     (cond
-    (eqb kind 7)
+    (eqb kind parts)
     (cond (ltb 13 count) 0 (cond (ltb place count) 1 0))
     (cond (ltb 13 place) 0 (cond (fitsOne (argumentIn space ends (place + 1)) kind) 2 0)))
 

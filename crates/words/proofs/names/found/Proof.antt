@@ -5,7 +5,8 @@ use native.Mathlib.Omega.{arith}
 use lib.ListN.{drop}
 use Rattle.words.proofs.Laws.{hit, miss, unfound}
 use borrow.Author.Needs.{needs}
-use Rattle.words.specs.Names.{names as table, find}
+use Rattle.words.specs.Arguments.{longerBy}
+use Rattle.words.specs.Names.{nameOf, names as table, find}
 use Rattle.words.proofs.Laws.{hit, miss, unfound}
 use Rattle.words.proofs.Laws.{hit, miss, unfound}
 use Rattle.words.proofs.Laws.{hit, miss, unfound}
@@ -28,7 +29,7 @@ array-read-if1 : tie.Need-array-read-if1 Inv-loop μ-loop
 array-read-if1 c = search needs
 
 returns : tie.Need-returns Inv-loop μ-loop
-unfolding table
+unfolding table nameOf longerBy
 returns c = sym (c .before .before .loop .inv .1 ∙ hit table _ (c .before .before .loop .i) (search needs) (c .if1 .taken))
 
 add-i : tie.Need-add-i Inv-loop μ-loop
@@ -38,11 +39,11 @@ loop-less : tie.Need-loop-less Inv-loop μ-loop
 loop-less c = search needs
 
 loop-again : tie.Need-loop-again Inv-loop μ-loop
-unfolding table
+unfolding table nameOf longerBy
 loop-again c = (search needs, c .before .before .loop .inv .1 ∙ miss table _ (c .before .before .loop .i) (search needs) (c .if1 .left))
 
 returns-2 : tie.Need-returns-2 Inv-loop μ-loop
-unfolding table
+unfolding table nameOf longerBy
 returns-2 c =
     let all : c .before .loop .i ≡ 30 = omega arith in
     sym (c .before .loop .inv .1 ∙ unfound table _ (c .before .loop .i) (search needs) ∙ all)
