@@ -9,7 +9,7 @@ use lib.Dec.{eqb, ltb}
 use lib.ListN.{drop, length, getD, drop-of-length-le}
 use lib.Seq.{drop-cons}
 use borrow.Author.Tests.{eq-eqb, ne-eqb, lt-ltb, le-ltb}
-use Rattle.words.specs.Arguments.{numberOf, longerBy, letterIn, takenOf, keptOf, argumentsIn, bytesIn}
+use Rattle.words.specs.Arguments.{numberOf, longerBy, letterIn, takenOf, keptOf, decodedIn}
 use Rattle.words.specs.declared.arguments.Arguments.{Arguments}
 use Rattle.words.specs.Names.{find, fitsAt, fitsIn}
 
@@ -61,27 +61,14 @@ module _ (line : List ℕ) (n i : ℕ) (a : Arguments) where
   abbrev pub next : Arguments
   next = takenOf a (letterIn line n i)
 
-  pub arguments-more :
-      i < n → argumentsIn (n - i) line n i a ≡ argumentsIn (n - (i + 1)) (keptOf line (a .at) (next .at) (next .byte)) n (i + 1) next
-  unfolding argumentsIn
-  arguments-more h =
+  pub decoded-more : i < n → decodedIn (n - i) line n i a ≡ decodedIn (n - (i + 1)) (keptOf line (a .at) (next .at) (next .byte)) n (i + 1) next
+  unfolding decodedIn
+  decoded-more h =
       let e : n - i ≡ suc (n - (i + 1)) = omega arith in
       rw e
 
-  pub arguments-end : n ≤ i → argumentsIn (n - i) line n i a ≡ a
-  unfolding argumentsIn
-  arguments-end h =
-      let e : n - i ≡ 0 = omega arith in
-      rw e
-
-  pub bytes-more : i < n → bytesIn (n - i) line n i a ≡ bytesIn (n - (i + 1)) (keptOf line (a .at) (next .at) (next .byte)) n (i + 1) next
-  unfolding bytesIn
-  bytes-more h =
-      let e : n - i ≡ suc (n - (i + 1)) = omega arith in
-      rw e
-
-  pub bytes-end : n ≤ i → bytesIn (n - i) line n i a ≡ line
-  unfolding bytesIn
-  bytes-end h =
+  pub decoded-end : n ≤ i → decodedIn (n - i) line n i a ≡ record { arguments = a; line = line }
+  unfolding decodedIn
+  decoded-end h =
       let e : n - i ≡ 0 = omega arith in
       rw e

@@ -5,13 +5,13 @@ use mathlib.Core.List.{List}
 use Prim.Native.Nat.{ℕ}
 use Rattle.frame.specs.OneAnswer.{OneAnswer}
 use Rattle.bytes.proofs.OneAnswer.{one, one-lent}
-use Rattle.words.specs.Arguments.{noneOf, letterIn, closedOf, argumentsIn, bytesIn, argumentIn, byteOf, numberOf}
+use Rattle.words.specs.Arguments.{noneOf, letterIn, closedOf, decodedIn, argumentIn, byteOf, numberOf}
 use Rattle.words.specs.Names.{operationOf}
 use Rattle.words.specs.declared.arguments.Arguments.{Arguments}
 
 pub decoded-one : (line : List ℕ) (count : ℕ)
-    → OneAnswer (λ (x : Arguments × List ℕ). (x .0 ≡ closedOf (argumentsIn count line count 0 noneOf)) × (x .1 ≡ bytesIn count line count 0 noneOf))
-decoded-one line count = one-lent (closedOf (argumentsIn count line count 0 noneOf)) (bytesIn count line count 0 noneOf)
+    → OneAnswer (λ (x : Arguments × List ℕ). (x .0 ≡ closedOf (decodedIn count line count 0 noneOf .arguments)) × (x .1 ≡ decodedIn count line count 0 noneOf .line))
+decoded-one line count = one-lent (closedOf (decodedIn count line count 0 noneOf .arguments)) (decodedIn count line count 0 noneOf .line)
 
 pub letter-one : (line : List ℕ) (count place : ℕ) → OneAnswer (λ x. x ≡ letterIn line count place)
 letter-one line count place = one (letterIn line count place)

@@ -40,7 +40,7 @@ openedOf a =
 
 -- "A number is bytes too, the most significant first .., at most 8": of more the last 8
 unfoldable pub longerBy : ℕ → ℕ → ℕ
-longerBy v b = (v % 72057594037927936 * 256 + b) % 2 ^ 64
+longerBy v b = (v % 2 ^ 56 * 256 + b) % 2 ^ 64
 
 -- a letter more of the name: seven at most, and none is a zero
 unfoldable pub namedOf : Arguments → ℕ → Arguments
@@ -49,7 +49,7 @@ namedOf a x =
     (eqb x 0)
     (badOf a)
     (cond
-    (leb 281474976710656 (a .name))
+    (leb (2 ^ 48) (a .name))
     (badOf a)
     (record { name = longerBy (a .name) x; count = a .count; at = a .at; half = a .half; byte = a .byte; ends = a .ends }))
 
@@ -104,18 +104,16 @@ takenOf a x =
 unfoldable pub keptOf : List ℕ → ℕ → ℕ → ℕ → List ℕ
 keptOf line at behind byte = cond (eqb at behind) line (cond (leb (length line) at) line (set line at byte))
 
--- the characters that are left, taken one by one, and the line as each byte is kept in its space
-unfoldable pub argumentsIn : ℕ → List ℕ → ℕ → ℕ → Arguments → Arguments
-argumentsIn zero line count i a = a
-argumentsIn (suc k) line count i a =
-    let b = takenOf a (letterIn line count i) in
-    argumentsIn k (keptOf line (a .at) (b .at) (b .byte)) count (i + 1) b
+-- the characters that are left, taken one by one: what is taken of them, and the line with each byte kept in its space
+pub record Decoded : Type 0 where
+  pub arguments : Arguments
+  pub line : List ℕ
 
-unfoldable pub bytesIn : ℕ → List ℕ → ℕ → ℕ → Arguments → List ℕ
-bytesIn zero line count i a = line
-bytesIn (suc k) line count i a =
+unfoldable pub decodedIn : ℕ → List ℕ → ℕ → ℕ → Arguments → Decoded
+decodedIn zero line count i a = record { arguments = a; line = line }
+decodedIn (suc k) line count i a =
     let b = takenOf a (letterIn line count i) in
-    bytesIn k (keptOf line (a .at) (b .at) (b .byte)) count (i + 1) b
+    decodedIn k (keptOf line (a .at) (b .at) (b .byte)) count (i + 1) b
 
 -- the bytes of an argument, the first at 1
 unfoldable pub argumentIn : List ℕ → List ℕ → ℕ → List ℕ

@@ -153,9 +153,9 @@ unfoldable pub fitsIn : ℕ → List ℕ → List ℕ → ℕ → ℕ → ℕ �
 fitsIn zero space ends count left place = eqb count 11
 fitsIn (suc k) space ends count left place =
     cond
-    (ltb (fitsAt space ends count (left / 1099511627776) place) 2)
-    (eqb (fitsAt space ends count (left / 1099511627776) place) 1)
-    (fitsIn k space ends count (left % 1099511627776 * 16) (place + 1))
+    (ltb (fitsAt space ends count (left / (16 ^ 10)) place) 2)
+    (eqb (fitsAt space ends count (left / (16 ^ 10)) place) 1)
+    (fitsIn k space ends count (left % (16 ^ 10) * 16) (place + 1))
 
 -- "A line that is none of these operations .. prints `?`": 30
 unfoldable pub operationOf : ℕ → List ℕ → List ℕ → ℕ → Bool → ℕ

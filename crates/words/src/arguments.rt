@@ -1,7 +1,7 @@
 // The arguments of a line, character by character, and what they are.
 use bytes::fields::bytes_at;
 ghost use mathlib.Core.Path.{_≡_};
-ghost use Rattle.words.specs.Arguments.{noneOf, letterIn, badOf, closedOf, openedOf, namedOf, dashedOf, digitOf, inWordOf, takenOf, keptOf, argumentsIn, bytesIn, argumentIn, byteOf, longerBy, numberOf};
+ghost use Rattle.words.specs.Arguments.{noneOf, letterIn, badOf, closedOf, openedOf, namedOf, dashedOf, digitOf, inWordOf, takenOf, keptOf, decodedIn, argumentIn, byteOf, longerBy, numberOf};
 
 // The most arguments that an operation has.
 pub(crate) const MOST: usize = 13;
@@ -30,7 +30,7 @@ pub struct Arguments {
 // Decodes the arguments of a line of that many characters in its own space, from its start on: their bytes take half
 // of their characters.
 pub fn decoded(line: &mut [u8], count: usize) -> Arguments
-    ensures { λ r. ⌜ (r ≡ closedOf (argumentsIn count (now (line .entry)) count 0 noneOf)) × (now (line .exit) ≡ bytesIn count (now (line .entry)) count 0 noneOf) ⌝ }
+    ensures { λ r. ⌜ (r ≡ closedOf (decodedIn count (now (line .entry)) count 0 noneOf .arguments)) × (now (line .exit) ≡ decodedIn count (now (line .entry)) count 0 noneOf .line) ⌝ }
 {
     let mut arguments = none();
     for i in 0..count {

@@ -3,15 +3,15 @@ use mathlib.Core.Path.{_≡_, ap, sym, _∙_}
 use Prim.Native.Nat.{_-_, _≤_, _<_}
 use native.Mathlib.Omega.{arith}
 use lib.ListN.{length}
-use Rattle.words.proofs.Laws.{arguments-more, arguments-end, bytes-more, bytes-end}
+use Rattle.words.proofs.Laws.{decoded-more, decoded-end}
 use borrow.Author.Needs.{needs}
-use Rattle.words.specs.Arguments.{noneOf, closedOf, argumentsIn, bytesIn}
+use Rattle.words.specs.Arguments.{closedOf, Decoded, decodedIn}
 use Rattle.words.proofs.arguments.decoded.Statement.{statement}
 use Rattle.words.proofs.arguments.decoded.Tie as tie
 
 abbrev Inv-loop : tie.InvT-loop
 Inv-loop line₀ count arguments₀ i₀ line arguments i =
-    (i ≤ count) × (length line ≡ length line₀) × (argumentsIn count line₀ count 0 arguments₀ ≡ argumentsIn (count - i) line count i arguments) × (bytesIn count line₀ count 0 arguments₀ ≡ bytesIn (count - i) line count i arguments)
+    (i ≤ count) × (length line ≡ length line₀) × (decodedIn count line₀ count 0 arguments₀ ≡ decodedIn (count - i) line count i arguments)
 
 abbrev μ-loop : tie.MeasureT-loop
 μ-loop line₀ count arguments₀ i₀ line arguments i = count - i
@@ -22,7 +22,7 @@ none-requires c κs = search needs
 loop-holds : tie.Need-loop-holds Inv-loop μ-loop
 loop-holds c =
     let e : c .before .before .args .count - 0 ≡ c .before .before .args .count = omega arith in
-    (search needs, search needs, rw e, rw e)
+    (search needs, search needs, rw e)
 
 letter-requires : tie.Need-letter-requires Inv-loop μ-loop
 letter-requires c κs = search needs
@@ -49,8 +49,7 @@ loop-again c =
     let g = c .before .before .keep .ensures in (
       search needs,
       search needs,
-      l .inv .2 ∙ arguments-more (l .line) n (l .i) (l .arguments) here ∙ rw (← e, ← f, ← g),
-      l .inv .3 ∙ bytes-more (l .line) n (l .i) (l .arguments) here ∙ rw (← e, ← f, ← g),
+      l .inv .2 ∙ decoded-more (l .line) n (l .i) (l .arguments) here ∙ rw (← e, ← f, ← g),
     )
 
 closed-requires : tie.Need-closed-requires Inv-loop μ-loop
@@ -65,7 +64,8 @@ returns c =
     let n = c .before .before .before .before .before .args .count in
     let all : n ≤ l .i = search needs in
     let e = c .before .before .before .none .ensures in
-    (c .closed .ensures ∙ ap closedOf (sym (rw e at (l .inv .2 ∙ arguments-end _ _ _ _ all))), sym (rw e at (l .inv .3 ∙ bytes-end _ _ _ _ all)))
+    let whole = rw e at (l .inv .2 ∙ decoded-end _ _ _ _ all) in
+    (c .closed .ensures ∙ ap closedOf (sym (ap (λ (d : Decoded). d .arguments) whole)), sym (ap (λ (d : Decoded). d .line) whole))
 
 pub decoded-spec : {M : Type 1} → statement M
 decoded-spec =
