@@ -142,7 +142,7 @@ fn named(before: Arguments, letter: u8) -> Arguments
     if letter == 0 {
         return bad(before);
     }
-    if before.name >= 281474976710656 {
+    if before.name >= 0x1000000000000 {
         return bad(before);
     }
     let mut next = before;
@@ -258,5 +258,5 @@ pub(crate) fn number_of(bytes: &[u8]) -> u64
 fn longer(value: u64, byte: u8) -> u64
     ensures { λ r. ⌜ r ≡ longerBy value byte ⌝ }
 {
-    std::num::wrapping_add_u64(value % 72057594037927936 * 256, byte as u64)
+    std::num::wrapping_add_u64(value % 0x100000000000000 * 256, byte as u64)
 }

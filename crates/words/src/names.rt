@@ -183,11 +183,11 @@ fn fits(space: &[u8], ends: [usize; 14], count: usize, shape: u64) -> bool
 {
     let mut left = shape;
     for i in 0..11 {
-        let answer = fits_at(space, ends, count, left / 1099511627776, i);
+        let answer = fits_at(space, ends, count, left / 0x10000000000, i);
         if answer < 2 {
             return answer == 1;
         }
-        left = left % 1099511627776 * 16;
+        left = left % 0x10000000000 * 16;
     }
     count == 11
 }
