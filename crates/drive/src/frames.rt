@@ -10,7 +10,7 @@ use crate::out::say_letter;
 use crate::out::say_number;
 use crate::out::say_refused;
 use crate::spaces;
-use bytes::fields::Brought;
+use fields::fields::Brought;
 use frame::capture::Counted;
 use frame::capture::Event;
 use frame::capture::Kind;
@@ -31,13 +31,13 @@ pub(crate) fn operate(operation: usize, space: &[u8], ends: [usize; 14], count: 
         let place = number(space, ends, 1) as usize;
         let length = number(space, ends, 2) as usize;
         let bytes = argument(space, ends, 3);
-        say_bytes(bytes::fields::bytes_at(bytes, place, length));
+        say_bytes(fields::fields::bytes_at(bytes, place, length));
         return;
     }
     if operation == names::LAST {
         let length = number(space, ends, 1) as usize;
         let bytes = argument(space, ends, 2);
-        say_bytes(bytes::fields::last_bytes(bytes, length));
+        say_bytes(fields::fields::last_bytes(bytes, length));
         return;
     }
     match frame::direction::direction_of(byte(space, ends, 1)) {
@@ -96,7 +96,7 @@ fn parts(direction: Direction, space: &[u8], ends: [usize; 14], count: usize) {
         let bytes = argument(space, ends, std::num::wrapping_add_usize(i, 2));
         space_before(i);
         part(reader, bytes);
-        let taken = frame::stream::take_part(reader, bytes);
+        let taken = frame::part::take_part(reader, bytes);
         reader = taken.reader;
     }
 }
@@ -131,7 +131,7 @@ fn say_answer(answer: ByteAnswer) {
 
 // One part of a stream: what it settled, and the reader after it.
 fn part(reader: Reader, bytes: &[u8]) {
-    let part = frame::stream::take_part(reader, bytes);
+    let part = frame::part::take_part(reader, bytes);
     say_number(part.frame as u64);
     say_after(b'/', part.broken as u64);
     say_after(b'/', part.noise as u64)
@@ -187,12 +187,12 @@ fn totals(letter: u8, capture: &[u8]) {
 }
 
 fn fields(direction: Direction, bytes: &[u8]) {
-    match bytes::fields::frame_fields(direction, bytes) {
+    match fields::fields::frame_fields(direction, bytes) {
         Brought::Frame(fields) => {
             say_byte(fields.zone);
             say_byte_after(fields.command);
             say_byte_after(fields.answer);
-            say_buffer(bytes::fields::frame_data(direction, bytes))
+            say_buffer(fields::fields::frame_data(direction, bytes))
         }
         Brought::NotOneFrame => say(b"not one frame"),
     }

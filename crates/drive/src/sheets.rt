@@ -7,10 +7,10 @@ use crate::out::say_byte_after;
 use crate::out::say_counted;
 use sheet::check::Verdict;
 use sheet::line::Line;
-use sheet::lines::SHEET_LIMIT;
+use sheet::sheet::SHEET_LIMIT;
 use sheetfile::file::FileRead;
 use sheetfile::write::SheetWritten;
-use signing::plain::CaptureCell;
+use signing::by_letter::CaptureCell;
 use signing::sign::Signed;
 use words::arguments::argument;
 use words::arguments::byte;
@@ -38,7 +38,7 @@ fn say_refused(number: u8, place: usize) {
 }
 
 fn check(letter: u8, file: &[u8]) {
-    match sheetfile::plain::check_file(letter, file) {
+    match sheetfile::by_letter::check_file(letter, file) {
         Verdict::Accepted => {
             say_sheet(sheetfile::file::read_file_by_letter(letter, file));
         }
@@ -87,7 +87,7 @@ pub(crate) fn say_written(written: SheetWritten, buf: &[u8]) {
 }
 
 fn sign(letter: u8, file: &[u8], capture: &[u8]) {
-    match signing::plain::sign_file(letter, file, capture) {
+    match signing::by_letter::sign_file(letter, file, capture) {
         Signed::Yes => say(b"signed"),
         Signed::No => say(b"not signed"),
         Signed::Refused(number, place) => say_refused(number, place),
@@ -95,7 +95,7 @@ fn sign(letter: u8, file: &[u8], capture: &[u8]) {
 }
 
 fn cell(letter: u8, capture: &[u8], zone: u8, command: u8) {
-    match signing::plain::cell_in_capture(letter, capture, zone, command) {
+    match signing::by_letter::cell_in_capture(letter, capture, zone, command) {
         CaptureCell::Value(value) => {
             say(b"value");
             say_byte_after(value)

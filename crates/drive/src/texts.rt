@@ -1,8 +1,8 @@
 // The listing, whole and in pieces.
 use crate::out::say;
-use text::listing::Piece;
-use text::listing::Place;
-use text::listing::list_piece;
+use listing_pieces::piece::Piece;
+use listing_pieces::piece::Place;
+use listing_pieces::piece::list_piece;
 use words::arguments::argument;
 use words::arguments::number;
 use words::names;
@@ -41,7 +41,7 @@ fn listing(input: &[u8], buf: &mut [u8]) {
         if count == 0 {
             return;
         }
-        say(bytes::fields::bytes_at(buf, 0, count));
+        say(fields::fields::bytes_at(buf, 0, count));
         place = behind;
     }
 }

@@ -4,8 +4,8 @@ use crate::messages::say_written;
 use crate::messages::signed;
 use crate::out::say_letter;
 use crate::sheets;
-use bytes::raw::Written;
-use bytes::raw::write_raw;
+use fields::raw::Written;
+use fields::raw::write_raw;
 use frame::direction::Direction;
 use message::read::Denial;
 use message::read::Message;
@@ -51,7 +51,7 @@ fn written(
     }
     let skip = room.len() - length;
     let written = write(operation, space, ends, &mut room[skip..], spot);
-    say_written(written, bytes::fields::last_bytes(room, length))
+    say_written(written, fields::fields::last_bytes(room, length))
 }
 
 // The same of a sheet file.
@@ -68,7 +68,7 @@ fn sheet_written(
     }
     let skip = room.len() - length;
     let written = write_sheet(operation, space, ends, &mut room[skip..], spot);
-    sheets::say_written(written, bytes::fields::last_bytes(room, length))
+    sheets::say_written(written, fields::fields::last_bytes(room, length))
 }
 
 // Which argument the length is.
@@ -102,9 +102,9 @@ fn write_sheet(
     let letter = byte(space, ends, 1);
     let file = argument(space, ends, 4);
     if operation == names::COPY {
-        return sheetfile::plain::copy_file(letter, file, buf, spot);
+        return sheetfile::by_letter::copy_file(letter, file, buf, spot);
     }
-    sheetfile::plain::run_of_file(letter, file, buf, spot)
+    sheetfile::by_letter::run_of_file(letter, file, buf, spot)
 }
 
 fn write(
@@ -115,10 +115,14 @@ fn write(
     spot: usize,
 ) -> Written {
     if operation == names::DECIMAL {
-        return text::number::write_decimal(buf, spot, (number(space, ends, 3) % 65536) as u16);
+        return listing_pieces::number::write_decimal(
+            buf,
+            spot,
+            (number(space, ends, 3) % 65536) as u16,
+        );
     }
     if operation == names::HEX {
-        return text::number::write_hex(buf, spot, byte(space, ends, 3));
+        return listing_pieces::number::write_hex(buf, spot, byte(space, ends, 3));
     }
     if operation == names::RAW {
         return raw(space, ends, buf, spot);

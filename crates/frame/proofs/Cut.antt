@@ -7,14 +7,14 @@ use lib.Dec.{eqb}
 use lib.ListN.{length, replicate}
 use mathlib.Core.Bool.{cond}
 use Rattle.frame.specs.Reader.{answers, takenBy}
-use Rattle.frame.specs.Small.{fedOf, fresh, answersOf, readerAfter}
+use Rattle.frame.specs.KeptReader.{fedOf, fresh, answersOf, readerAfter}
 use Rattle.frame.specs.Capture.{kindNumber, settles, settled, labels, count, partOf}
 use Rattle.frame.specs.CutPromise.{joined, answersInParts, fedInParts, addedUp, CutPromise}
 use Rattle.frame.specs.declared.direction.Direction.{Direction}
 use Rattle.frame.specs.declared.reader.ByteAnswer.{ByteAnswer}
 use Rattle.frame.specs.declared.reader.ByteAnswer.the-variants as answer
 use Rattle.frame.specs.declared.reader.Reader.{Reader}
-use Rattle.frame.specs.declared.stream.Part.{Part}
+use Rattle.frame.specs.declared.part.Part.{Part}
 use Rattle.frame.specs.declared.capture.Kind.{Kind}
 use Rattle.frame.specs.declared.capture.Kind.the-variants.{Frame, Broken, Noise, Pending}
 use Rattle.frame.proofs.Labels.{count-append, count-replicate}

@@ -10,7 +10,7 @@ use lib.Dec.{eqb, ltb}
 use lib.ListN.{length}
 use Rattle.frame.specs.Frame.{header, opens, ends, dl}
 use Rattle.frame.specs.Reader.{answerTo}
-use Rattle.frame.specs.Small.{fedAt}
+use Rattle.frame.specs.KeptReader.{fedAt}
 use Rattle.frame.specs.Meaning.{Outside, Inside, AtEndPlace, Means}
 use Rattle.frame.specs.AnswerPromise.{AnswerPromise}
 use Rattle.frame.specs.ReaderPromise.{ReaderPromise, SpoiltPromise}

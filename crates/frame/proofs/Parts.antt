@@ -10,14 +10,14 @@ use lib.Dec.{eqb, ltb}
 use lib.ListN.{length, drop, getD, length-replicate, drop-of-length-le}
 use lib.Seq.{drop-cons}
 use Rattle.frame.specs.Frame.{header, opens, ends}
-use Rattle.frame.specs.Small.{fedAt, fedOf, answersOf, readerAfter}
+use Rattle.frame.specs.KeptReader.{fedAt, fedOf, answersOf, readerAfter}
 use Rattle.frame.specs.Capture.{count, settles, settled}
 use Rattle.frame.specs.Computed.{withFed}
 use Rattle.frame.specs.declared.direction.Direction.{Direction}
 use Rattle.frame.specs.declared.reader.ByteAnswer.the-variants as answer
 use Rattle.frame.specs.declared.reader.Reader.{Reader}
 use Rattle.frame.specs.declared.reader.Fed.{Fed}
-use Rattle.frame.specs.declared.stream.Part.{Part}
+use Rattle.frame.specs.declared.part.Part.{Part}
 use Rattle.frame.specs.declared.capture.Kind.the-variants.{Frame, Broken, Noise}
 use Rattle.frame.proofs.Cases.{cases}
 use Rattle.frame.proofs.Labels.{count-append, count-all}

@@ -7,14 +7,14 @@ use lib.ListN.{length, drop, replicate}
 use mathlib.Core.Bool.{cond}
 use Rattle.frame.specs.Refusal.{line, ruled}
 use Rattle.frame.specs.Reader.{answers, takenBy}
-use Rattle.frame.specs.Small.{answersOf, readerAfter}
+use Rattle.frame.specs.KeptReader.{answersOf, readerAfter}
 use Rattle.frame.specs.declared.direction.Direction.{Direction}
 use Rattle.frame.specs.declared.direction.Named.{Named}
 use Rattle.frame.specs.declared.direction.Named.the-variants as named
 use Rattle.frame.specs.declared.reader.ByteAnswer.{ByteAnswer}
 use Rattle.frame.specs.declared.reader.ByteAnswer.the-variants as answer
 use Rattle.frame.specs.declared.reader.Reader.{Reader}
-use Rattle.frame.specs.declared.stream.Part.{Part}
+use Rattle.frame.specs.declared.part.Part.{Part}
 use Rattle.frame.specs.declared.capture.Kind.{Kind}
 use Rattle.frame.specs.declared.capture.Kind.the-variants.{Frame, Broken, Noise, Pending}
 use Rattle.frame.specs.declared.capture.Event.{Event}

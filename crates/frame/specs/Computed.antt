@@ -7,7 +7,7 @@ use mathlib.Core.Bool.{cond}
 use Rattle.frame.specs.Frame.{opens, ends}
 use Rattle.frame.specs.Capture.{count, settles, event}
 use Rattle.frame.specs.declared.reader.Fed.{Fed}
-use Rattle.frame.specs.declared.stream.Part.{Part}
+use Rattle.frame.specs.declared.part.Part.{Part}
 use Rattle.frame.specs.declared.capture.Kind.{Kind}
 use Rattle.frame.specs.declared.capture.Kind.the-variants.{Frame, Broken, Noise, Pending}
 use Rattle.frame.specs.declared.capture.Event.{Event}

@@ -3,12 +3,12 @@
 use mathlib.Core.Path.{_≡_}
 use mathlib.Core.List.{List, [], _∷_, _++_}
 use Prim.Native.Nat.{ℕ, _+_}
-use Rattle.frame.specs.Small.{fresh, answersOf}
+use Rattle.frame.specs.KeptReader.{fresh, answersOf}
 use Rattle.frame.specs.Capture.{partOf, totalsOf}
 use Rattle.frame.specs.declared.direction.Direction.{Direction}
 use Rattle.frame.specs.declared.reader.ByteAnswer.{ByteAnswer}
 use Rattle.frame.specs.declared.reader.Reader.{Reader}
-use Rattle.frame.specs.declared.stream.Part.{Part}
+use Rattle.frame.specs.declared.part.Part.{Part}
 
 abbrev pub joined : List (List ℕ) → List ℕ
 joined [] = []

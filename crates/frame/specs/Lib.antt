@@ -5,7 +5,7 @@ pub mod Letter
 pub mod Frame
 pub mod Reader
 pub mod Meaning
-pub mod Small
+pub mod KeptReader
 pub mod Capture
 pub mod OneAnswer
 pub mod RulePromise

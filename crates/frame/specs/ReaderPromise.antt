@@ -6,7 +6,7 @@ use mathlib.Core.List.{List, []}
 use Prim.Native.Nat.{ℕ, _+_, _≤_, _<_}
 use Rattle.frame.specs.Frame.{header}
 use Rattle.frame.specs.Reader.{answers, takenBy}
-use Rattle.frame.specs.Small.{fresh, kept, fedOf, answersOf, readerAfter}
+use Rattle.frame.specs.KeptReader.{fresh, kept, fedOf, answersOf, readerAfter}
 use Rattle.frame.specs.declared.direction.Direction.{Direction}
 
 pub record ReaderPromise : Type 0 where

@@ -5,9 +5,9 @@ use Prim.Native.Nat.{ℕ, _+_, _≤_, _<_}
 use native.Mathlib.Numerals.{add-one}
 use lib.ListN.{drop, length, getD, drop-of-length-le}
 use lib.Seq.{drop-cons}
-use Rattle.sheet.specs.Lines.{withLine, withAll}
+use Rattle.sheet.specs.Sheet.{withLine, withAll}
 use Rattle.sheet.specs.declared.line.Line.{Line}
-use Rattle.sheet.specs.declared.lines.Sheet.{Sheet}
+use Rattle.sheet.specs.declared.sheet.Sheet.{Sheet}
 
 pub fold-start : (s : Sheet) (ls : List Line) → withAll s ls ≡ withAll s (drop 0 ls)
 fold-start s ls = refl

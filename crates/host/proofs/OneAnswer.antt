@@ -3,20 +3,20 @@ use mathlib.Core.Path.{_≡_}
 use mathlib.Core.List.{List}
 use Prim.Native.Nat.{ℕ}
 use Rattle.frame.specs.OneAnswer.{OneAnswer}
-use Rattle.bytes.proofs.OneAnswer.{one, one-lent}
+use Rattle.fields.proofs.OneAnswer.{one, one-lent}
 use Rattle.row.specs.declared.profile.Profile.{Profile}
 use Rattle.message.specs.declared.read.Reading.{Reading}
-use Rattle.sheet.specs.Lines.{withAll}
+use Rattle.sheet.specs.Sheet.{withAll}
 use Rattle.sheet.specs.Check.{sheetVerdict}
 use Rattle.sheetfile.specs.Written.{fileAnswered, fileLeft, runAnswered, runLeft}
 use Rattle.sheet.specs.declared.line.Line.{Line}
-use Rattle.sheet.specs.declared.lines.Sheet.{Sheet}
+use Rattle.sheet.specs.declared.sheet.Sheet.{Sheet}
 use Rattle.sheetfile.specs.declared.write.SheetWritten.{SheetWritten}
-use Rattle.tracker.specs.Kept.{keptIn}
+use Rattle.tracker.specs.Tracker.{keptIn}
 use Rattle.tracker.specs.Feed.{fed}
 use Rattle.signing.specs.Sign.{signOff}
 use Rattle.signing.specs.Capture.{captureFed, captureSigned}
-use Rattle.tracker.specs.declared.kept.Tracker.{Tracker}
+use Rattle.tracker.specs.declared.tracker.Tracker.{Tracker}
 use Rattle.signing.specs.declared.capture.CaptureAnswer.{CaptureAnswer}
 
 pub with-lines-one : (lines : List Line) (from : Sheet) → OneAnswer (λ x. x ≡ withAll from lines)

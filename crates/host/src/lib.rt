@@ -1,3 +1,3 @@
 // The doors over what a host keeps itself: lists of lines, and trackers.
-pub mod list;
-pub mod track;
+pub mod sheets;
+pub mod trackers;

@@ -3,17 +3,17 @@ use mathlib.Core.Path.{_≡_}
 use mathlib.Core.List.{List}
 use Prim.Native.Nat.{ℕ}
 use lib.IntN.{ℤ}
-use Rattle.bytes.specs.Fields.{dataOf}
+use Rattle.fields.specs.Fields.{dataOf}
 use Rattle.frame.specs.OneAnswer.{OneAnswer}
 use Rattle.frame.specs.declared.direction.Direction.{Direction}
-use Rattle.bytes.specs.declared.raw.Written.{Written}
-use Rattle.bytes.proofs.OneAnswer.{one, one-lent}
+use Rattle.fields.specs.declared.raw.Written.{Written}
+use Rattle.fields.proofs.OneAnswer.{one, one-lent}
 use Rattle.row.specs.Profile.{profileOf, letterOf, zonesOf}
 use Rattle.row.specs.Table.{rowOf}
 use Rattle.row.specs.Signed.{numberOf, codeOf, plainCodeOf}
 use Rattle.row.specs.declared.profile.Profile.{Profile}
 use Rattle.row.specs.declared.table.Row.{Row}
-use Rattle.rules.specs.Judge.{isSetting, isAnswer, isWord, lengthOf, rowJudged, judgedOf}
+use Rattle.judging.specs.Judge.{isSetting, isAnswer, isWord, lengthOf, rowJudged, judgedOf}
 use Rattle.message.specs.Message.{readOf, frameRead, deniedIn}
 use Rattle.message.specs.Write.{messageAnswered, messageLeft, fieldsAnswered, fieldsLeft}
 use Rattle.message.specs.declared.read.Message.{Message}

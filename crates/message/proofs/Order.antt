@@ -8,14 +8,14 @@ use borrow.Author.Tests.{ne-eqb}
 use lib.ListN.{length}
 use Rattle.frame.specs.Refusal.{Line, noRoom}
 use Rattle.frame.specs.Frame.{frameOf}
-use Rattle.bytes.specs.Raw.{placed}
+use Rattle.fields.specs.Raw.{placed}
 use Rattle.frame.specs.RulePromise.{First, None}
-use Rattle.bytes.specs.Numbers.{writtenNumber, writtenCount}
+use Rattle.fields.specs.Numbers.{writtenNumber, writtenCount}
 use Rattle.frame.specs.declared.direction.Direction.{Direction}
-use Rattle.bytes.specs.declared.raw.Written.{Written}
-use Rattle.bytes.specs.declared.raw.Written.the-variants as written
+use Rattle.fields.specs.declared.raw.Written.{Written}
+use Rattle.fields.specs.declared.raw.Written.the-variants as written
 use Rattle.frame.proofs.Rules.{rule-promise}
-use Rattle.bytes.proofs.Placed.{refused-keeps}
+use Rattle.fields.proofs.Placed.{refused-keeps}
 use Rattle.row.specs.Profile.{profileOf}
 use Rattle.row.specs.declared.profile.Profile.{Profile}
 use Rattle.message.specs.Message.{readLines, messageOf, readOf, frameRead}
@@ -23,7 +23,7 @@ use Rattle.message.specs.Write.{writeAnswered, writeLeft, writeLines, me
 use Rattle.message.specs.Numbers.{readingNumber, readingPaper, frameNumber, framePaper, zeros}
 use Rattle.message.proofs.Trip.{paper-of}
 use Rattle.message.specs.OrderPromise.{OrderPromise, WriteOrder, WriteOrderPromise}
-use Rattle.message.specs.RefusalPromise.{RefusalPromise}
+use Rattle.message.specs.MessageRefusalPromise.{RefusalPromise}
 use Rattle.message.specs.declared.read.Message.{Message}
 use Rattle.message.specs.declared.read.FrameReading.{FrameReading}
 use Rattle.message.specs.declared.read.FrameReading.the-variants as frame-reading

@@ -6,19 +6,19 @@ use Prim.Native.Nat.{ℕ, _<_}
 use native.Mathlib.Omega.{arith}
 use lib.ListN.{length}
 use Rattle.frame.specs.Refusal.{Line, ruled}
-use Rattle.bytes.specs.Fields.{isFrame, fieldsIn, dataIn, fieldsOf, dataOf}
+use Rattle.fields.specs.Fields.{isFrame, fieldsIn, dataIn, fieldsOf, dataOf}
 use Rattle.frame.specs.declared.direction.Direction.{Direction}
-use Rattle.bytes.specs.declared.fields.Fields.{Fields}
-use Rattle.bytes.specs.declared.fields.Brought.the-variants as brought
+use Rattle.fields.specs.declared.fields.Fields.{Fields}
+use Rattle.fields.specs.declared.fields.Brought.the-variants as brought
 use Rattle.frame.proofs.Ruled.{firstNumber, was-refused, was-accepted, refused-with, accepted-by}
 use Rattle.row.specs.Table.{rowOf}
 use Rattle.row.specs.declared.profile.Profile.{Profile}
 use Rattle.row.specs.declared.table.Row.{Row}
-use Rattle.rules.specs.Judge.{rowIn, judgeLines, judgedOf}
+use Rattle.judging.specs.Judge.{rowIn, judgeLines, judgedOf}
 use Rattle.message.specs.Content.{contentOf}
 use Rattle.message.specs.Message.{said, readOf, fromReading, frameRead, deniedIn}
-use Rattle.message.specs.Passed.{saidRead, isDenied}
-use Rattle.rules.specs.declared.judge.Judged.the-variants as judged
+use Rattle.message.specs.Computed.{saidRead, isDenied}
+use Rattle.judging.specs.declared.judge.Judged.the-variants as judged
 use Rattle.message.specs.declared.read.Said.{Said}
 use Rattle.message.specs.declared.read.Message.{Message}
 use Rattle.message.specs.declared.read.SaidReading.the-variants as sayings
@@ -26,7 +26,7 @@ use Rattle.message.specs.declared.read.Reading.the-variants as reading
 use Rattle.message.specs.declared.read.FrameReading.{FrameReading}
 use Rattle.message.specs.declared.read.FrameReading.the-variants as frame
 use Rattle.message.specs.declared.read.Message.the-variants as message
-use Rattle.rules.proofs.Judges.{judged-refused, judged-legal, judge-passes, length-some}
+use Rattle.judging.proofs.Judges.{judged-refused, judged-legal, judge-passes, length-some}
 
 said-differs : (s : Said) (n : ℕ) → sayings.Said s ≡ sayings.Refused n → ⊥
 said-differs s n e = let z : _≡_ {A = ℕ} 0 1 = cc in omega arith

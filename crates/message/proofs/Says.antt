@@ -11,7 +11,7 @@ use Rattle.frame.specs.declared.direction.Direction.{Direction}
 use Rattle.frame.specs.declared.direction.Direction.the-variants.{Command, Answer}
 use Rattle.frame.proofs.Cases.{cases}
 use Rattle.row.specs.declared.table.Row.{Row}
-use Rattle.rules.specs.Judge.{isAnswer, isWord, lengthOf, byteOf}
+use Rattle.judging.specs.Judge.{isAnswer, isWord, lengthOf, byteOf}
 use Rattle.message.specs.Content.{wordOf, isOff, numberIn, valueContent, byteContent, contentOf, encodedOf, encodedData, valueByte, isForm}
 use Rattle.message.specs.FormPromise.{LegalData}
 use Rattle.message.specs.declared.content.Content.{Content}

@@ -15,7 +15,7 @@ use Rattle.row.specs.declared.table.Codes.{Codes}
 use Rattle.row.specs.declared.table.Found.the-variants as found
 use Rattle.row.specs.declared.table.Row.{Row}
 use Rattle.row.proofs.Rows.{Each, each-found}
-use Rattle.rules.specs.Judge.{within, isWord}
+use Rattle.judging.specs.Judge.{within, isWord}
 use Rattle.message.specs.Content.{valueByte, inCommand}
 use Rattle.message.proofs.Tests.{both, upto, upto-at}
 

@@ -9,29 +9,29 @@ use lib.Dec.{eqb, ltb}
 use lib.ListN.{length}
 use Rattle.frame.specs.Refusal.{Line, line, noRoom}
 use Rattle.frame.specs.Frame.{frameOf}
-use Rattle.bytes.specs.Raw.{placed, tooLong}
-use Rattle.bytes.specs.Fields.{isFrame, fieldsIn, dataIn, dataOf, answerKept, bytesAt}
+use Rattle.fields.specs.Raw.{placed, tooLong}
+use Rattle.fields.specs.Fields.{isFrame, fieldsIn, dataIn, dataOf, answerKept, bytesAt}
 use Rattle.frame.specs.Capture.{event, eventsFrom, firstOf}
 use Rattle.frame.specs.declared.direction.Direction.{Direction}
-use Rattle.bytes.specs.declared.fields.Fields.{Fields}
+use Rattle.fields.specs.declared.fields.Fields.{Fields}
 use Rattle.frame.specs.declared.capture.Kind.the-variants as kind
 use Rattle.frame.specs.declared.capture.Next.the-variants as next
 use Rattle.frame.specs.declared.direction.Direction.the-variants.{Command, Answer}
-use Rattle.bytes.specs.declared.raw.Written.the-variants as written
+use Rattle.fields.specs.declared.raw.Written.the-variants as written
 use Rattle.frame.proofs.Ruled.{refuses, was-accepted, accepted-by, pass-first, pass-both, pass-append, append-pass}
-use Rattle.bytes.proofs.Back.{frame-promise, placed-found, placed-bytes}
-use Rattle.bytes.proofs.Again.{frame-again}
+use Rattle.fields.proofs.Back.{frame-promise, placed-found, placed-bytes}
+use Rattle.fields.proofs.Again.{frame-again}
 use Rattle.row.specs.Table.{rowOf}
 use Rattle.row.specs.declared.profile.Profile.{Profile}
 use Rattle.row.specs.declared.table.Row.{Row}
 use Rattle.row.specs.declared.table.Found.{Found}
 use Rattle.row.specs.declared.table.Found.the-variants as found
-use Rattle.rules.specs.Judge.{isMissing, rowIn, profileZone, noRow, rowZone, wrongLength, wrongValue, rowLines, judgeLines}
+use Rattle.judging.specs.Judge.{isMissing, rowIn, profileZone, noRow, rowZone, wrongLength, wrongValue, rowLines, judgeLines}
 use Rattle.message.specs.Content as content
 use Rattle.message.specs.Message.{isDenial, wrongCode, said, denial, readLines, messageOf, readOf, deniedData, fromReading, frameRead}
 use Rattle.message.specs.Write.{saidLines, saidData, notDenied, messageDirection, writeLines, messageFrame, writeAnswered, writeLeft, messageAnswered, messageLeft}
 use Rattle.message.specs.Numbers.{Paper, messagePaper}
-use Rattle.message.specs.RefusalPromise.{codeOn}
+use Rattle.message.specs.MessageRefusalPromise.{codeOn}
 use Rattle.message.specs.MessagePromise.{ReadsAs, MessagePromise}
 use Rattle.message.specs.declared.content.Content.{Content}
 use Rattle.message.specs.declared.content.Content.the-variants.{Request, Up, Down, On, Off, Toggle, LevellerOff, Number, Input}

@@ -10,9 +10,9 @@ use Rattle.frame.specs.declared.direction.Direction.the-variants.{Command, Answ
 use Rattle.row.specs.Table.{table, firstRow}
 use Rattle.row.specs.declared.profile.Profile.the-variants.{A, S}
 use Rattle.row.specs.declared.table.Row.{Row}
-use Rattle.rules.specs.Judge.{lengthOf, valueOf, judgedOf}
-use Rattle.rules.specs.declared.judge.Judged.{Judged}
-use Rattle.rules.specs.declared.judge.Judged.the-variants.{Legal}
+use Rattle.judging.specs.Judge.{lengthOf, valueOf, judgedOf}
+use Rattle.judging.specs.declared.judge.Judged.{Judged}
+use Rattle.judging.specs.declared.judge.Judged.the-variants.{Legal}
 use Rattle.message.proofs.Tidy.{every}
 
 -- the request, and the row's lowest answer code, with 00 in the pair row

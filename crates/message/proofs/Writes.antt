@@ -9,26 +9,26 @@ use lib.Dec.{eqb}
 use lib.ListN.{length}
 use Rattle.frame.specs.Refusal.{Line, line, ruled, noRoom}
 use Rattle.frame.specs.Frame.{dataLimit, frameOf}
-use Rattle.bytes.specs.Raw.{placed, tooLong, rawAnswered, rawLeft}
+use Rattle.fields.specs.Raw.{placed, tooLong, rawAnswered, rawLeft}
 use Rattle.frame.specs.declared.direction.Direction.{Direction}
 use Rattle.frame.specs.declared.direction.Direction.the-variants.{Command, Answer}
-use Rattle.bytes.specs.declared.raw.Written.the-variants as written
+use Rattle.fields.specs.declared.raw.Written.the-variants as written
 use Rattle.frame.proofs.Header.{frame-length}
 use Rattle.frame.proofs.Ruled.{refuses, firstNumber, ruled-append, was-refused, was-accepted, refused-with, accepted-by, pass-first}
 use Rattle.row.specs.Table.{rowOf}
 use Rattle.row.specs.declared.profile.Profile.{Profile}
 use Rattle.row.specs.declared.table.Row.{Row}
-use Rattle.rules.specs.Judge.{oneByte, lengthOf, wrongLength, rowIn, rowLines, judgeLines, rowJudged}
+use Rattle.judging.specs.Judge.{oneByte, lengthOf, wrongLength, rowIn, rowLines, judgeLines, rowJudged}
 use Rattle.message.specs.Content.{encodedOf, encodedData, sizeOf, isForm}
 use Rattle.message.specs.Message.{isDenial, wrongCode, readLines, readOf}
 use Rattle.message.specs.Write.{saidLines, saidData, writeAnswered, writeLeft}
 use Rattle.message.specs.declared.content.Content.{Content}
 use Rattle.message.specs.declared.content.Encoded.{Encoded}
 use Rattle.message.specs.declared.content.Encoded.the-variants.{One, Two, NoCode}
-use Rattle.rules.specs.declared.judge.Judged.the-variants as judged
+use Rattle.judging.specs.declared.judge.Judged.the-variants as judged
 use Rattle.message.specs.declared.read.Message.{Message}
 use Rattle.message.specs.declared.read.Reading.the-variants as reading
-use Rattle.rules.proofs.Judges.{judged-refused, judged-legal, judge-passes}
+use Rattle.judging.proofs.Judges.{judged-refused, judged-legal, judge-passes}
 
 -- lines that refuse, or pass, before the rest
 module _ (ls ms : List Line) (buf : List ℕ) (at : ℕ) (bytes : List ℕ) where

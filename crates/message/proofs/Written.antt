@@ -13,7 +13,7 @@ use Rattle.frame.specs.declared.direction.Direction.the-variants.{Command, Answ
 use Rattle.row.specs.declared.signed.Coded.{Coded}
 use Rattle.row.specs.declared.signed.Coded.the-variants as coded
 use Rattle.row.specs.declared.table.Row.{Row}
-use Rattle.rules.specs.Judge.{isAnswer, isWord, lengthOf, byteOf}
+use Rattle.judging.specs.Judge.{isAnswer, isWord, lengthOf, byteOf}
 use Rattle.message.specs.Content.{wordOf, isOff, valueContent, byteContent, contentOf, encodedOf, encodedCode, encodedData, sizeOf, valueByte, inCommand, codeFits, isForm}
 use Rattle.message.specs.FormPromise.{LegalData}
 use Rattle.message.specs.declared.content.Content.{Content}

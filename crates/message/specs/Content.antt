@@ -11,7 +11,7 @@ use Rattle.row.specs.Signed.{numberOf, codeOf, plainCodeOf}
 use Rattle.row.specs.declared.signed.Coded.{Coded}
 use Rattle.row.specs.declared.signed.Coded.the-variants as coded
 use Rattle.row.specs.declared.table.Row.{Row}
-use Rattle.rules.specs.Judge.{isSetting, isAnswer, isWord}
+use Rattle.judging.specs.Judge.{isSetting, isAnswer, isWord}
 use Rattle.message.specs.declared.content.Content.{Content}
 use Rattle.message.specs.declared.content.Content.the-variants.{Request, Up, Down, On, Off, Toggle, LevellerOff, Number, Input}
 use Rattle.message.specs.declared.content.Encoded.{Encoded}

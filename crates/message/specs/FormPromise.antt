@@ -10,7 +10,7 @@ use Rattle.row.specs.Table.{rowOf}
 use Rattle.row.specs.declared.profile.Profile.{Profile}
 use Rattle.row.specs.declared.table.Row.{Row}
 use Rattle.row.specs.declared.table.Found.the-variants as found
-use Rattle.rules.specs.Judge.{lengthOf, valueOf}
+use Rattle.judging.specs.Judge.{lengthOf, valueOf}
 use Rattle.message.specs.Content.{contentOf, encodedOf, encodedData, sizeOf, isForm}
 use Rattle.message.specs.declared.content.Content.{Content}
 

@@ -4,8 +4,8 @@ pub mod Message
 pub mod Write
 pub mod Numbers
 pub mod OrderPromise
-pub mod RefusalPromise
+pub mod MessageRefusalPromise
 pub mod FormPromise
 pub mod MessagePromise
 pub mod BenchPromise
-pub mod Passed
+pub mod Computed

@@ -4,13 +4,13 @@ use mathlib.Core.Bool.{Bool, cond, not, _&&_, _||_}
 use mathlib.Core.List.{List, [], _∷_}
 use lib.Dec.{eqb, leb}
 use Rattle.frame.specs.Refusal.{Line, line, ruled}
-use Rattle.bytes.specs.Fields.{isFrame, fieldsIn, dataIn}
-use Rattle.bytes.specs.Raw.{tooLong}
+use Rattle.fields.specs.Fields.{isFrame, fieldsIn, dataIn}
+use Rattle.fields.specs.Raw.{tooLong}
 use Rattle.frame.specs.declared.direction.Direction.{Direction}
 use Rattle.frame.specs.declared.direction.Direction.the-variants.{Command, Answer}
 use Rattle.row.specs.Table.{rowOf}
 use Rattle.row.specs.declared.profile.Profile.{Profile}
-use Rattle.rules.specs.Judge.{rowIn, judgeLines}
+use Rattle.judging.specs.Judge.{rowIn, judgeLines}
 use Rattle.message.specs.Content.{contentOf}
 use Rattle.message.specs.declared.read.Said.{Said}
 use Rattle.message.specs.declared.read.Denial.{Denial}

@@ -8,8 +8,8 @@ use Rattle.frame.specs.Refusal.{Line, noRoom}
 use Rattle.frame.specs.Frame.{frameOf}
 use Rattle.frame.specs.RulePromise.{First, None}
 use Rattle.frame.specs.declared.direction.Direction.{Direction}
-use Rattle.bytes.specs.declared.raw.Written.{Written}
-use Rattle.bytes.specs.declared.raw.Written.the-variants as written
+use Rattle.fields.specs.declared.raw.Written.{Written}
+use Rattle.fields.specs.declared.raw.Written.the-variants as written
 use Rattle.row.specs.declared.profile.Profile.{Profile}
 use Rattle.message.specs.Message.{readLines, messageOf, readOf}
 use Rattle.message.specs.Write.{writeLines, messageFrame, messageAnswered, fieldsAnswered}

@@ -5,14 +5,14 @@ use mathlib.Core.List.{List, [], _∷_, _++_}
 use lib.ListN.{length}
 use Rattle.frame.specs.Refusal.{Line, line, ruled, noRoom}
 use Rattle.frame.specs.Frame.{frameOf}
-use Rattle.bytes.specs.Raw.{placed, tooLong}
+use Rattle.fields.specs.Raw.{placed, tooLong}
 use Rattle.frame.specs.declared.direction.Direction.{Direction}
 use Rattle.frame.specs.declared.direction.Direction.the-variants.{Command, Answer}
-use Rattle.bytes.specs.declared.raw.Written.{Written}
-use Rattle.bytes.specs.declared.raw.Written.the-variants.{Bytes, Refused}
+use Rattle.fields.specs.declared.raw.Written.{Written}
+use Rattle.fields.specs.declared.raw.Written.the-variants.{Bytes, Refused}
 use Rattle.row.specs.Table.{rowOf}
 use Rattle.row.specs.declared.profile.Profile.{Profile}
-use Rattle.rules.specs.Judge.{wrongLength, rowIn, rowLines}
+use Rattle.judging.specs.Judge.{wrongLength, rowIn, rowLines}
 use Rattle.message.specs.Content.{encodedOf, encodedData, sizeOf, isForm}
 use Rattle.message.specs.Message.{isDenial, readLines}
 use Rattle.message.specs.declared.content.Content.{Content}

@@ -1,15 +1,15 @@
 use frame::direction::Direction;
+use judging::judge::is_answer;
+use judging::judge::is_setting;
+use judging::judge::is_word;
 use row::signed::Coded;
 use row::table::Row;
-use rules::judge::is_answer;
-use rules::judge::is_setting;
-use rules::judge::is_word;
 ghost use mathlib.Core.Path.{_≡_};
 ghost use mathlib.Core.Bool.{cond};
 ghost use Prim.Native.Nat.{_<_};
 ghost use lib.ListN.{length};
 ghost use mathlib.Core.Bool.{_&&_};
-ghost use Rattle.rules.specs.Judge.{isAnswer, isWord};
+ghost use Rattle.judging.specs.Judge.{isAnswer, isWord};
 ghost use Rattle.message.specs.Content.{wordOf, isOff, valueContent, byteContent, contentOf, encodedCode, numberCode, encodedOf, sizeOf, valueByte, inCommand, numberByte, codeFits, isForm};
 
 // What the data of a message say, in the words of document 01.

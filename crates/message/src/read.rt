@@ -1,16 +1,16 @@
 use crate::content::Content;
 use crate::content::content_of;
-use bytes::fields::Brought;
+use fields::fields::Brought;
 use frame::direction::Direction;
+use judging::judge::Judged;
+use judging::judge::judge;
 use row::profile::Profile;
-use rules::judge::Judged;
-use rules::judge::judge;
 ghost use mathlib.Core.Path.{_≡_};
 ghost use Rattle.frame.specs.declared.direction.Direction.the-variants as direction;
 ghost use Rattle.message.specs.Message.{readOf, frameRead, deniedIn};
-ghost use Rattle.message.specs.Passed.{saidRead, isDenialMessage, isDenied};
-ghost use Rattle.bytes.specs.Fields.{dataOf};
-ghost use Rattle.message.specs.Passed.{judgedOn, saidOn, readingOn};
+ghost use Rattle.message.specs.Computed.{saidRead, isDenialMessage, isDenied};
+ghost use Rattle.fields.specs.Fields.{dataOf};
+ghost use Rattle.message.specs.Computed.{judgedOn, saidOn, readingOn};
 
 // What a command asks for, or a status tells: zone, command, and what the data say.
 pub struct Said {
@@ -55,11 +55,11 @@ pub enum SaidReading {
 pub fn read_frame(profile: Profile, direction: Direction, bytes: &[u8]) -> FrameReading
     ensures { λ r. ⌜ r ≡ frameRead profile direction (now (bytes .entry)) ⌝ }
 {
-    let brought = bytes::fields::frame_fields(direction, bytes);
+    let brought = fields::fields::frame_fields(direction, bytes);
     let Brought::Frame(fields) = brought else {
         return FrameReading::NotOneFrame;
     };
-    let body = bytes::fields::frame_data(direction, bytes);
+    let body = fields::fields::frame_data(direction, bytes);
     let reading = read_message(
         profile,
         direction,
@@ -99,7 +99,7 @@ pub fn denied_data(profile: Profile, direction: Direction, bytes: &[u8]) -> &[u8
     if !is_denied(read_frame(profile, direction, bytes)) {
         return &bytes[..0];
     }
-    bytes::fields::frame_data(direction, bytes)
+    fields::fields::frame_data(direction, bytes)
 }
 
 fn is_denied(reading: FrameReading) -> bool

@@ -6,21 +6,21 @@ use crate::content::size_of;
 use crate::read::Message;
 use crate::read::Reading;
 use crate::read::read_message;
-use bytes::raw::Written;
-use bytes::raw::write_raw;
+use fields::raw::Written;
+use fields::raw::write_raw;
 use frame::direction::Direction;
+use judging::judge::Judged;
+use judging::judge::judge_row;
+use judging::judge::length_fits;
 use row::profile::Profile;
-use rules::judge::Judged;
-use rules::judge::judge_row;
-use rules::judge::length_fits;
 ghost use mathlib.Core.Path.{_≡_};
 ghost use mathlib.Core.List.{[], _∷_};
 ghost use Rattle.frame.specs.Frame.{frameOf};
-ghost use Rattle.bytes.specs.Raw.{tooLong, rawAnswered, rawLeft};
+ghost use Rattle.fields.specs.Raw.{tooLong, rawAnswered, rawLeft};
 ghost use Rattle.frame.specs.declared.direction.Direction.the-variants as direction;
 ghost use Rattle.message.specs.Content.{encodedData};
 ghost use Rattle.message.specs.Write.{saidLines, saidData, notDenied, writeAnswered, writeLeft, messageAnswered, messageLeft, fieldsAnswered, fieldsLeft};
-ghost use Rattle.message.specs.Passed.{judgedWritten, readingWritten};
+ghost use Rattle.message.specs.Computed.{judgedWritten, readingWritten};
 
 // Writes a message into the rest of the buffer from a place: the checks of reading, 4 also for a form
 // that the row lacks, then 9. Denied: only 5, then 3, then 9; the profile is not asked. `body` are the

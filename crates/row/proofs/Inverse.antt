@@ -7,7 +7,7 @@ use lib.Dec.{leb, ltb}
 use lib.IntN.{ℤ, pos, negsuc, negℤ}
 use borrow.Author.Tests.{ltb-true, ltb-false, leb-true, lt-ltb, le-ltb, le-leb}
 use Rattle.row.specs.Signed.{numberOf, codeOf}
-use Rattle.row.specs.SignedPromise.{SignedPromise}
+use Rattle.row.specs.SignedCodePromise.{SignedPromise}
 use Rattle.row.specs.declared.signed.Coded.the-variants.{Code, NoCode}
 
 code-number : (c : ℕ) → c < 0x100 → (c ≡ 0x80 → ⊥) → codeOf (numberOf c) ≡ Code c

@@ -3,5 +3,5 @@
 pub mod Profile
 pub mod Table
 pub mod Signed
-pub mod SignedPromise
+pub mod SignedCodePromise
 pub mod Computed

@@ -11,11 +11,11 @@ use lib.Seq.{take-suc, take-append-le, length-take-le}
 use Rattle.frame.specs.Refusal.{Line, line, ruled}
 use Rattle.row.specs.declared.profile.Profile.{Profile}
 use Rattle.sheet.specs.Line.{isLegal, isRepeated}
-use Rattle.sheet.specs.Lines.{sheetLimit, noLine, firstLines, linesOf}
+use Rattle.sheet.specs.Sheet.{sheetLimit, noLine, firstLines, linesOf}
 use Rattle.sheet.specs.Check.{lowestFault, sheetVerdict}
 use Rattle.sheet.specs.Computed.{faultOf}
 use Rattle.sheet.specs.declared.line.Line as declared
-use Rattle.sheet.specs.declared.lines.Sheet.{Sheet}
+use Rattle.sheet.specs.declared.sheet.Sheet.{Sheet}
 use Rattle.sheet.specs.declared.check.Verdict.the-variants.{Accepted, Refused}
 use Rattle.sheet.proofs.Repeats.{here}
 

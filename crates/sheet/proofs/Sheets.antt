@@ -13,12 +13,12 @@ use lib.ListN.{length, take, length-append, length-set}
 use lib.Seq.{take-suc-set}
 use Rattle.row.specs.declared.profile.Profile.{Profile}
 use Rattle.sheet.specs.Line.{isLegal, isRepeated}
-use Rattle.sheet.specs.Lines.{sheetLimit, noLines, withLine, linesOf, withAll}
+use Rattle.sheet.specs.Sheet.{sheetLimit, noLines, withLine, linesOf, withAll}
 use Rattle.sheet.specs.Check.{lowestFault, sheetVerdict, verdictNumber, verdictPlace}
 use Rattle.sheet.specs.Computed.{faultOf}
 use Rattle.sheet.specs.SheetPromise.{AtFault, Sound, Lowest, AllSound, Says, SheetPromise}
 use Rattle.sheet.specs.declared.line.Line.{Line}
-use Rattle.sheet.specs.declared.lines.Sheet.{Sheet}
+use Rattle.sheet.specs.declared.sheet.Sheet.{Sheet}
 use Rattle.sheet.specs.declared.check.Verdict.{Verdict}
 use Rattle.sheet.specs.declared.check.Verdict.the-variants.{Accepted, Refused}
 use Rattle.sheet.proofs.Faults.{lowest-sound, lowest-fault, first-short, first-many, verdict-long}

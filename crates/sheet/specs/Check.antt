@@ -8,7 +8,7 @@ use Rattle.frame.specs.Refusal as refusal
 use Rattle.frame.specs.Refusal.{line, ruled}
 use Rattle.row.specs.declared.profile.Profile.{Profile}
 use Rattle.sheet.specs.Line.{isLegal, isRepeated}
-use Rattle.sheet.specs.Lines.{sheetLimit}
+use Rattle.sheet.specs.Sheet.{sheetLimit}
 use Rattle.sheet.specs.declared.line.Line.{Line}
 use Rattle.sheet.specs.declared.check.Verdict.{Verdict}
 use Rattle.sheet.specs.declared.check.Verdict.the-variants.{Accepted, Refused}

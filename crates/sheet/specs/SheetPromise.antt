@@ -10,7 +10,7 @@ use Prim.Native.Nat.{ℕ, zero, suc, _≤_, _<_}
 use lib.ListN.{length}
 use Rattle.row.specs.declared.profile.Profile.{Profile}
 use Rattle.sheet.specs.Line.{isLegal, isRepeated}
-use Rattle.sheet.specs.Lines.{sheetLimit, noLines, withAll, linesOf}
+use Rattle.sheet.specs.Sheet.{sheetLimit, noLines, withAll, linesOf}
 use Rattle.sheet.specs.Check.{sheetVerdict, verdictNumber, verdictPlace}
 use Rattle.sheet.specs.declared.line.Line.{Line}
 use Rattle.sheet.specs.declared.check.Verdict.{Verdict}

@@ -1,15 +1,15 @@
 use crate::line::Line;
 use crate::line::is_legal;
 use crate::line::is_same_cell;
-use crate::lines::SHEET_LIMIT;
-use crate::lines::Sheet;
+use crate::sheet::SHEET_LIMIT;
+use crate::sheet::Sheet;
 use row::profile::Profile;
 ghost use mathlib.Core.Path.{_≡_};
 ghost use Prim.Native.Nat.{_≤_, _<_};
 ghost use mathlib.Core.List.{[]};
 ghost use lib.ListN.{take, getD};
 ghost use Rattle.sheet.specs.Line.{isRepeated};
-ghost use Rattle.sheet.specs.Lines.{sheetLimit, noLine, firstLines, linesOf};
+ghost use Rattle.sheet.specs.Sheet.{sheetLimit, noLine, firstLines, linesOf};
 ghost use Rattle.sheet.specs.Check.{lowestFault, sheetVerdict};
 ghost use Rattle.sheet.specs.Computed.{faultOf};
 

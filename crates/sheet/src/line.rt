@@ -1,8 +1,8 @@
+use judging::judge::Judged;
+use judging::judge::is_setting;
+use judging::judge::judge_row;
 use row::profile::Profile;
 use row::table::Row;
-use rules::judge::Judged;
-use rules::judge::is_setting;
-use rules::judge::judge_row;
 ghost use mathlib.Core.Path.{_≡_};
 ghost use Rattle.sheet.specs.Line.{isSheetValue, isLegal, sameCell};
 

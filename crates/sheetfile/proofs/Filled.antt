@@ -7,10 +7,10 @@ use native.Mathlib.Omega.{arith}
 use lib.ListN.{length, take, drop, getD, set, replicate, length-append, length-replicate}
 use lib.Seq.{take-suc, take-at, drop-at, drop-cons, drop-drop, set-at}
 use Rattle.frame.specs.Frame.{frameOf}
-use Rattle.bytes.specs.Raw.{placed}
-use Rattle.bytes.proofs.Tail.{tail-placed}
+use Rattle.fields.specs.Raw.{placed}
+use Rattle.fields.proofs.Tail.{tail-placed}
 use Rattle.row.specs.declared.profile.Profile.{Profile}
-use Rattle.sheet.specs.Lines.{noLine}
+use Rattle.sheet.specs.Sheet.{noLine}
 use Rattle.sheetfile.specs.Order.{inOrder}
 use Rattle.sheetfile.specs.File.{recordSize}
 use Rattle.sheetfile.specs.Computed.{zerosOf, bytesOf, sheetBytes}

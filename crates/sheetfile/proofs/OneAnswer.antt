@@ -3,18 +3,18 @@ use mathlib.Core.Path.{_≡_}
 use mathlib.Core.List.{List}
 use Prim.Native.Nat.{ℕ}
 use Rattle.frame.specs.OneAnswer.{OneAnswer}
-use Rattle.bytes.proofs.OneAnswer.{one, one-lent}
+use Rattle.fields.proofs.OneAnswer.{one, one-lent}
 use Rattle.row.specs.Profile.{profileOf}
 use Rattle.row.specs.declared.profile.Profile.{Profile}
 use Rattle.row.specs.declared.table.Row.{Row}
 use Rattle.sheet.specs.Line.{isSheetValue, isLegal}
-use Rattle.sheet.specs.Lines.{noLines, withLine, linesOf}
+use Rattle.sheet.specs.Sheet.{noLines, withLine, linesOf}
 use Rattle.sheet.specs.Check.{sheetVerdict}
 use Rattle.sheetfile.specs.File.{fileRead, fileReadBy}
 use Rattle.sheetfile.specs.Written.{fileAnswered, fileLeft, runAnswered, runLeft}
-use Rattle.sheetfile.specs.Plain.{fileVerdictBy, copyAnswered, copyLeft, fileRunAnswered, fileRunLeft}
+use Rattle.sheetfile.specs.ByLetter.{fileVerdictBy, copyAnswered, copyLeft, fileRunAnswered, fileRunLeft}
 use Rattle.sheet.specs.declared.line.Line.{Line}
-use Rattle.sheet.specs.declared.lines.Sheet.{Sheet}
+use Rattle.sheet.specs.declared.sheet.Sheet.{Sheet}
 use Rattle.sheetfile.specs.declared.write.SheetWritten.{SheetWritten}
 
 pub is-legal-one : (profile : Profile) (line : Line) → OneAnswer (λ x. x ≡ isLegal profile line)

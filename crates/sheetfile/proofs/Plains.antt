@@ -7,7 +7,7 @@ use Rattle.row.specs.Profile.{profileOf}
 use Rattle.row.specs.declared.profile.Profile.{Profile}
 use Rattle.row.specs.declared.profile.Named.{Named}
 use Rattle.row.specs.declared.profile.Named.the-variants as named
-use Rattle.sheet.specs.Lines.{noLines, withAll, linesOf}
+use Rattle.sheet.specs.Sheet.{noLines, withAll, linesOf}
 use Rattle.sheet.specs.Check.{sheetVerdict}
 use Rattle.sheetfile.specs.File.{records, linesIn, fileOf, fileVerdict, readBy, fileRead, fileReadBy}
 use Rattle.sheetfile.specs.Run.{runOf}
@@ -15,10 +15,10 @@ use Rattle.sheetfile.specs.Written.{answered, left, fileAnswered, fileLe
 use Rattle.sheetfile.specs.Computed.{sheetBytes, fileAs}
 use Rattle.sheetfile.specs.declared.write.Form.{Form}
 use Rattle.sheetfile.specs.declared.write.Form.the-variants as form
-use Rattle.sheetfile.specs.Plain.{fileVerdictBy, copyAnswered, copyLeft, fileRunAnswered, fileRunLeft}
-use Rattle.sheetfile.specs.PlainPromise.{PlainPromise, PlainLetter}
+use Rattle.sheetfile.specs.ByLetter.{fileVerdictBy, copyAnswered, copyLeft, fileRunAnswered, fileRunLeft}
+use Rattle.sheetfile.specs.FileByLetterPromise.{PlainPromise, PlainLetter}
 use Rattle.sheet.specs.declared.line.Line.{Line}
-use Rattle.sheet.specs.declared.lines.Sheet.{Sheet}
+use Rattle.sheet.specs.declared.sheet.Sheet.{Sheet}
 use Rattle.sheet.specs.declared.check.Verdict.{Verdict}
 use Rattle.sheet.specs.declared.check.Verdict.the-variants as verdict
 use Rattle.sheetfile.proofs.Trips.{verdict-of, accepted-marked, trip-back, trip-lines, trip-verdict}

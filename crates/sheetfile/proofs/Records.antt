@@ -8,10 +8,10 @@ use native.Mathlib.Omega.{arith}
 use lib.ListN.{length, drop, getD, length-drop}
 use lib.Seq.{drop-cons}
 use Rattle.row.specs.declared.profile.Profile.{Profile}
-use Rattle.sheet.specs.Lines.{withLine, withAll}
+use Rattle.sheet.specs.Sheet.{withLine, withAll}
 use Rattle.sheetfile.specs.File.{Record, recordSize, records, lineOf, linesIn, isMarked, lowestWrong}
 use Rattle.sheetfile.specs.Computed.{recordAt}
-use Rattle.sheet.specs.declared.lines.Sheet.{Sheet}
+use Rattle.sheet.specs.declared.sheet.Sheet.{Sheet}
 use Rattle.sheet.specs.declared.check.Verdict.the-variants.{Accepted, Refused}
 
 -- fewer than six bytes are no record

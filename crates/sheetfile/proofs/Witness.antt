@@ -6,7 +6,7 @@ use lib.ListN.{take, drop, replicate}
 use Rattle.frame.specs.Frame.{frameOf}
 use Rattle.row.specs.Table.{table, firstRow}
 use Rattle.row.specs.declared.profile.Profile.the-variants.{A, S}
-use Rattle.rules.specs.Judge.{rowJudged}
+use Rattle.judging.specs.Judge.{rowJudged}
 use Rattle.sheet.specs.Line.{isLegal, isRepeated}
 use Rattle.sheetfile.specs.Order.{inOrder}
 use Rattle.sheet.specs.Check.{lowestFault, sheetVerdict}

@@ -8,10 +8,10 @@ use native.Mathlib.Omega.{arith}
 use borrow.Author.Tests.{ltb-true, ltb-false}
 use lib.Dec.{ltb}
 use lib.ListN.{length, take, drop}
-use Rattle.bytes.specs.Raw.{placed}
-use Rattle.bytes.proofs.Placed.{placed-there, placed-before, placed-after}
+use Rattle.fields.specs.Raw.{placed}
+use Rattle.fields.proofs.Placed.{placed-there, placed-before, placed-after}
 use Rattle.row.specs.declared.profile.Profile.{Profile}
-use Rattle.sheet.specs.Lines.{linesOf}
+use Rattle.sheet.specs.Sheet.{linesOf}
 use Rattle.sheet.specs.Check.{sheetVerdict}
 use Rattle.sheetfile.specs.File.{recordSize, fileOf, fileRead}
 use Rattle.sheetfile.specs.Run.{flush, runOf}

@@ -10,7 +10,7 @@ use Rattle.row.specs.Profile.{letterOf}
 use Rattle.row.specs.declared.profile.Profile.{Profile}
 use Rattle.row.specs.declared.profile.Named.{Named}
 use Rattle.row.specs.declared.profile.Named.the-variants as named
-use Rattle.sheet.specs.Lines.{noLines, withAll}
+use Rattle.sheet.specs.Sheet.{noLines, withAll}
 use Rattle.sheetfile.specs.Order.{inOrder}
 use Rattle.sheet.specs.Check.{firstRefusal, sheetVerdict}
 use Rattle.sheet.specs.declared.line.Line.{Line}

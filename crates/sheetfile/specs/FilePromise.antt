@@ -9,7 +9,7 @@ use Prim.Native.Nat.{ℕ, zero, suc, _+_, _*_, _<_}
 use lib.ListN.{length, replicate}
 use Rattle.row.specs.Profile.{letterOf, profileOf}
 use Rattle.row.specs.declared.profile.Profile.{Profile}
-use Rattle.sheet.specs.Lines.{noLines, linesOf}
+use Rattle.sheet.specs.Sheet.{noLines, linesOf}
 use Rattle.sheet.specs.Check.{sheetVerdict}
 use Rattle.sheetfile.specs.File.{Record, recordSize, records, linesIn, isMarked, fileOf, fileVerdict, fileRead, fileReadBy}
 use Rattle.sheet.specs.SheetPromise.{Says}

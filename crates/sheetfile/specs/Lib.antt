@@ -4,8 +4,8 @@ pub mod Order
 pub mod File
 pub mod Run
 pub mod Written
-pub mod Plain
+pub mod ByLetter
 pub mod FilePromise
 pub mod WrittenPromise
-pub mod PlainPromise
+pub mod FileByLetterPromise
 pub mod Computed

@@ -9,22 +9,22 @@ use lib.Dec.{ltb}
 use lib.ListN.{length}
 use Rattle.frame.specs.Frame.{frameOf}
 use Rattle.frame.specs.Capture.{captureLimit, event, eventsFrom, firstOf}
-use Rattle.bytes.specs.Fields.{bytesAt, fieldsIn, dataIn}
+use Rattle.fields.specs.Fields.{bytesAt, fieldsIn, dataIn}
 use Rattle.frame.specs.declared.direction.Direction.the-variants.{Answer}
 use Rattle.frame.specs.declared.capture.Kind.the-variants as kind
 use Rattle.frame.specs.declared.capture.Next.the-variants as next
-use Rattle.bytes.proofs.Back.{frame-promise}
+use Rattle.fields.proofs.Back.{frame-promise}
 use Rattle.row.specs.declared.profile.Profile.{Profile}
 use Rattle.sheet.specs.Check.{sheetVerdict}
 use Rattle.sheet.specs.declared.line.Line.{Line}
 use Rattle.sheet.specs.declared.check.Verdict.the-variants as verdict
-use Rattle.tracker.specs.Kept.{fresh}
+use Rattle.tracker.specs.Tracker.{fresh}
 use Rattle.tracker.specs.Feed.{Brought, fedAll}
 use Rattle.signing.specs.Sign.{signOff}
 use Rattle.signing.specs.SignPromise.{AllAnswered}
 use Rattle.signing.specs.Capture.{broughtAt, broughtBy, captureFed, captureSigned}
-use Rattle.signing.specs.CapturePromise.{CapturePromise}
-use Rattle.tracker.specs.declared.kept.Tracker.{Tracker}
+use Rattle.signing.specs.CaptureSignPromise.{CapturePromise}
+use Rattle.tracker.specs.declared.tracker.Tracker.{Tracker}
 use Rattle.signing.specs.declared.sign.Signed.the-variants as signed
 use Rattle.signing.specs.declared.capture.CaptureFed.{CaptureFed}
 use Rattle.signing.specs.declared.capture.CaptureAnswer.{CaptureAnswer}

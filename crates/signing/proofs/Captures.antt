@@ -9,7 +9,7 @@ use Rattle.frame.specs.declared.capture.Next.the-variants as next
 use Rattle.frame.proofs.Leads.{leads, none-first}
 use Rattle.tracker.specs.Feed.{fedAll}
 use Rattle.signing.specs.Capture.{broughtAt, broughtAll}
-use Rattle.tracker.specs.declared.kept.Tracker.{Tracker}
+use Rattle.tracker.specs.declared.tracker.Tracker.{Tracker}
 use Rattle.tracker.proofs.History.{fed-append}
 
 module _ (capture : List ℕ) (at : ℕ) (t : Tracker) where

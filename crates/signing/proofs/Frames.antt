@@ -12,15 +12,15 @@ use lib.Seq.{take-append-seam, drop-append-add}
 use Rattle.frame.specs.Frame.{opens, frameLength, frameOf}
 use Rattle.frame.specs.Reader.{answerTo, takenAfter, answers, takenBy}
 use Rattle.frame.specs.Capture.{event, eventsTold, eventsFrom}
-use Rattle.bytes.specs.Fields.{bytesAt}
+use Rattle.fields.specs.Fields.{bytesAt}
 use Rattle.frame.specs.declared.direction.Direction.{Direction}
 use Rattle.frame.specs.declared.direction.Direction.the-variants.{Answer}
 use Rattle.frame.specs.declared.reader.ByteAnswer.{ByteAnswer}
 use Rattle.frame.specs.declared.reader.ByteAnswer.the-variants.{Waiting, Noise, Frame, Broken}
 use Rattle.frame.specs.declared.capture.Kind.the-variants as kind
 use Rattle.frame.proofs.Header.{frame-length}
-use Rattle.bytes.proofs.Back.{frame-promise}
-use Rattle.signing.specs.CapturePromise.{BroughtPromise}
+use Rattle.fields.proofs.Back.{frame-promise}
+use Rattle.signing.specs.CaptureSignPromise.{BroughtPromise}
 use Rattle.tracker.specs.Feed.{Brought}
 use Rattle.signing.specs.Capture.{broughtIn, broughtAll, broughtBy}
 

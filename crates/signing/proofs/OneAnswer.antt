@@ -3,18 +3,18 @@ use mathlib.Core.Path.{_≡_}
 use mathlib.Core.List.{List}
 use Prim.Native.Nat.{ℕ}
 use Rattle.frame.specs.OneAnswer.{OneAnswer}
-use Rattle.bytes.proofs.OneAnswer.{one}
+use Rattle.fields.proofs.OneAnswer.{one}
 use Rattle.row.specs.Profile.{profileOf}
 use Rattle.row.specs.Table.{placeOf}
 use Rattle.row.specs.declared.profile.Profile.{Profile}
-use Rattle.sheet.specs.Lines.{linesOf}
-use Rattle.sheet.specs.declared.lines.Sheet.{Sheet}
-use Rattle.tracker.specs.Kept.{fresh, keptIn}
+use Rattle.sheet.specs.Sheet.{linesOf}
+use Rattle.sheet.specs.declared.sheet.Sheet.{Sheet}
+use Rattle.tracker.specs.Tracker.{fresh, keptIn}
 use Rattle.tracker.specs.Feed.{fed}
 use Rattle.signing.specs.Sign.{signOff}
 use Rattle.signing.specs.Capture.{captureFed, captureSigned}
-use Rattle.signing.specs.Plain.{fileSignedBy, captureCellBy}
-use Rattle.tracker.specs.declared.kept.Tracker.{Tracker}
+use Rattle.signing.specs.ByLetter.{fileSignedBy, captureCellBy}
+use Rattle.tracker.specs.declared.tracker.Tracker.{Tracker}
 
 pub row-place-one : (profile : Profile) (command : ℕ) → OneAnswer (λ x. x ≡ placeOf profile command)
 row-place-one profile command = one (placeOf profile command)

@@ -11,28 +11,28 @@ use Rattle.frame.specs.Capture.{captureLimit}
 use Rattle.row.specs.Profile.{profileOf}
 use Rattle.row.specs.declared.profile.Profile.{Profile}
 use Rattle.row.specs.declared.profile.Named.the-variants as named
-use Rattle.sheet.specs.Lines.{linesOf}
+use Rattle.sheet.specs.Sheet.{linesOf}
 use Rattle.sheetfile.specs.File.{records, linesIn, fileRead}
 use Rattle.sheet.specs.declared.line.Line.{Line}
-use Rattle.sheet.specs.declared.lines.Sheet.{Sheet}
+use Rattle.sheet.specs.declared.sheet.Sheet.{Sheet}
 use Rattle.sheet.specs.declared.check.Verdict.{Verdict}
 use Rattle.sheet.specs.declared.check.Verdict.the-variants as verdict
 use Rattle.sheetfile.proofs.Trips.{trip-lines, trip-verdict}
 use Rattle.sheetfile.proofs.Plains.{said, both, sheet-read}
-use Rattle.tracker.specs.Kept.{fresh, keptIn}
+use Rattle.tracker.specs.Tracker.{fresh, keptIn}
 use Rattle.tracker.specs.Feed.{fedAll}
 use Rattle.signing.specs.Sign.{allHold, signedBy}
 use Rattle.signing.specs.Capture.{broughtBy, longCapture, captureFed, captureSigned}
 use Rattle.tracker.specs.Numbers.{keptState, keptByte}
-use Rattle.signing.specs.Plain.{fileSigned, shown, captureCell, captureCellNumber, captureCellState, captureCellByte}
-use Rattle.signing.specs.PlainPromise.{PlainPromise, PlainLetter}
-use Rattle.tracker.specs.declared.kept.Kept.{Kept}
-use Rattle.tracker.specs.declared.kept.Kept.the-variants as kept
-use Rattle.tracker.specs.declared.kept.Tracker.{Tracker}
+use Rattle.signing.specs.ByLetter.{fileSigned, shown, captureCell, captureCellNumber, captureCellState, captureCellByte}
+use Rattle.signing.specs.SignByLetterPromise.{PlainPromise, PlainLetter}
+use Rattle.tracker.specs.declared.tracker.Kept.{Kept}
+use Rattle.tracker.specs.declared.tracker.Kept.the-variants as kept
+use Rattle.tracker.specs.declared.tracker.Tracker.{Tracker}
 use Rattle.signing.specs.declared.sign.Signed.the-variants as signed
 use Rattle.signing.specs.declared.capture.CaptureFed.{CaptureFed}
 use Rattle.signing.specs.declared.capture.CaptureAnswer.the-variants as answer
-use Rattle.signing.specs.declared.plain.CaptureCell.the-variants as cell
+use Rattle.signing.specs.declared.by_letter.CaptureCell.the-variants as cell
 use Rattle.signing.proofs.Signs.{its-verdict}
 use Rattle.signing.proofs.CaptureSigns.{fed-not, same-number, fed-long, fed-short, short}
 use Rattle.signing.proofs.Together.{capture-together}

@@ -7,11 +7,11 @@ use Prim.Native.Nat.{ℕ, _≤_}
 use native.Mathlib.Omega.{arith}
 use lib.ListN.{getD}
 use Rattle.frame.specs.Refusal.{Line}
-use Rattle.bytes.specs.Raw.{tooLong}
+use Rattle.fields.specs.Raw.{tooLong}
 use Rattle.frame.specs.RulePromise.{First}
 use Rattle.frame.specs.declared.direction.Direction.the-variants.{Answer}
 use Rattle.row.specs.declared.profile.Profile.{Profile}
-use Rattle.rules.specs.Judge.{judgeLines}
+use Rattle.judging.specs.Judge.{judgeLines}
 use Rattle.message.specs.Message.{isDenial, wrongCode, readLines}
 use Rattle.message.specs.Numbers.{readingNumber, readingPaper, zeros}
 use Rattle.message.specs.declared.read.Reading.{Reading}
@@ -20,8 +20,8 @@ use Rattle.message.proofs.Order.{order-promise}
 use Rattle.tracker.specs.Feed.{heard}
 use Rattle.tracker.specs.FeedPromise.{answered}
 use Rattle.signing.specs.Numbers.{signedNumber, signedPlace, signedYes, captureNumber}
-use Rattle.signing.specs.RefusalPromise.{RefusalPromise}
-use Rattle.tracker.specs.declared.kept.Tracker.{Tracker}
+use Rattle.signing.specs.SignRefusalPromise.{RefusalPromise}
+use Rattle.tracker.specs.declared.tracker.Tracker.{Tracker}
 use Rattle.signing.specs.declared.capture.CaptureFed.{CaptureFed}
 use Rattle.signing.proofs.Signs.{sign-promise}
 use Rattle.signing.proofs.CaptureSigns.{fed-long, capture-promise}

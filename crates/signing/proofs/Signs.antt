@@ -9,27 +9,27 @@ use borrow.Author.Tests.{eq-eqb, eqb-true}
 use lib.ListN.{length, take, drop, getD, drop-of-length-le}
 use lib.Seq.{length-take-le}
 use Rattle.row.specs.declared.profile.Profile.{Profile}
-use Rattle.sheet.specs.Lines.{sheetLimit, linesOf}
+use Rattle.sheet.specs.Sheet.{sheetLimit, linesOf}
 use Rattle.sheet.specs.Check.{sheetVerdict}
 use Rattle.sheet.specs.SheetPromise.{AllSound}
 use Rattle.sheet.specs.declared.line.Line.{Line}
-use Rattle.sheet.specs.declared.lines.Sheet.{Sheet}
+use Rattle.sheet.specs.declared.sheet.Sheet.{Sheet}
 use Rattle.sheet.specs.declared.check.Verdict.{Verdict}
 use Rattle.sheet.specs.declared.check.Verdict.the-variants as verdict
 use Rattle.sheet.proofs.Faults.{first-many}
 use Rattle.sheet.proofs.Sheets.{sheet-promise}
 use Rattle.sheet.proofs.Repeats.{here}
 use Rattle.tracker.specs.Cell.{cellOf}
-use Rattle.tracker.specs.Kept.{fresh, keptAt, keptIn}
+use Rattle.tracker.specs.Tracker.{fresh, keptAt, keptIn}
 use Rattle.tracker.specs.Feed.{Brought, fedAll}
 use Rattle.signing.specs.Sign.{holdsIn, holds, allHold, yesOrNo, signedBy}
 use Rattle.tracker.specs.HistoryPromise.{NoneOf, Last, HistoryPromise}
 use Rattle.signing.specs.SignPromise.{AllHold, AllAnswered, SignPromise, SignedPromise}
 use Rattle.tracker.specs.declared.cell.Cell.{Cell}
 use Rattle.tracker.specs.declared.cell.Cell.the-variants as cell
-use Rattle.tracker.specs.declared.kept.Tracker.{Tracker}
-use Rattle.tracker.specs.declared.kept.Kept.{Kept}
-use Rattle.tracker.specs.declared.kept.Kept.the-variants as kept
+use Rattle.tracker.specs.declared.tracker.Tracker.{Tracker}
+use Rattle.tracker.specs.declared.tracker.Kept.{Kept}
+use Rattle.tracker.specs.declared.tracker.Kept.the-variants as kept
 use Rattle.signing.specs.declared.sign.Signed.the-variants.{Yes, No}
 use Rattle.tracker.proofs.Cells.{legal-cell}
 use Rattle.tracker.proofs.History.{all-profile, history-promise}

@@ -4,14 +4,14 @@ use mathlib.Core.List.{List, [], _∷_}
 use Prim.Native.Nat.{ℕ}
 use Rattle.frame.specs.Refusal.{ruled}
 use Rattle.row.specs.declared.profile.Profile.{Profile}
-use Rattle.sheet.specs.Lines.{noLines, withAll, linesOf}
+use Rattle.sheet.specs.Sheet.{noLines, withAll, linesOf}
 use Rattle.sheet.specs.declared.line.Line.{Line}
 use Rattle.sheetfile.proofs.Together.{by-verdict}
-use Rattle.tracker.specs.Kept.{fresh}
+use Rattle.tracker.specs.Tracker.{fresh}
 use Rattle.tracker.specs.Feed.{fedAll}
 use Rattle.signing.specs.Sign.{allHold, signedBy, signOff}
 use Rattle.signing.specs.Capture.{broughtBy, longCapture, captureSigned}
-use Rattle.tracker.specs.declared.kept.Tracker.{Tracker}
+use Rattle.tracker.specs.declared.tracker.Tracker.{Tracker}
 use Rattle.signing.specs.declared.sign.Signed.{Signed}
 use Rattle.signing.specs.declared.sign.Signed.the-variants as signed
 

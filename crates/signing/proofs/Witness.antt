@@ -4,22 +4,22 @@ use mathlib.Core.List.{List, [], _∷_, _++_}
 use Prim.Native.Nat.{ℕ}
 use Rattle.frame.specs.Reader.{answerTo, takenAfter, answers, takenBy}
 use Rattle.frame.specs.Capture.{eventsTold, eventsFrom}
-use Rattle.bytes.specs.Fields.{isFrame, bytesAt}
+use Rattle.fields.specs.Fields.{isFrame, bytesAt}
 use Rattle.row.specs.Table.{table, firstRow, firstPlace}
 use Rattle.row.specs.declared.profile.Profile.the-variants.{A, S}
-use Rattle.rules.specs.Judge.{rowJudged}
+use Rattle.judging.specs.Judge.{rowJudged}
 use Rattle.message.specs.Message.{readOf}
 use Rattle.sheet.specs.Line.{isLegal, isRepeated}
 use Rattle.sheet.specs.Check.{lowestFault, sheetVerdict}
 use Rattle.sheet.specs.declared.line.Line.{Line}
 use Rattle.tracker.specs.Cell.{cellOf}
-use Rattle.tracker.specs.Kept.{fresh, keptIn}
+use Rattle.tracker.specs.Tracker.{fresh, keptIn}
 use Rattle.tracker.specs.Feed.{after, Brought, fedAll}
 use Rattle.signing.specs.Sign.{allHold, signOff}
 use Rattle.signing.specs.Capture.{broughtAll, captureSigned}
 use Rattle.tracker.specs.declared.cell.Cell.the-variants.{At}
-use Rattle.tracker.specs.declared.kept.Tracker.{Tracker}
-use Rattle.tracker.specs.declared.kept.Kept.the-variants.{Value, Unknown, NoCell}
+use Rattle.tracker.specs.declared.tracker.Tracker.{Tracker}
+use Rattle.tracker.specs.declared.tracker.Kept.the-variants.{Value, Unknown, NoCell}
 use Rattle.signing.specs.declared.sign.Signed.the-variants.{Yes, No, Refused}
 
 abbrev levelled : Tracker

@@ -6,19 +6,19 @@ use lib.Dec.{ltb}
 use lib.ListN.{length}
 use Rattle.frame.specs.Refusal.{Line, line, ruled}
 use Rattle.frame.specs.Capture.{captureLimit, eventsFrom}
-use Rattle.bytes.specs.Fields.{fieldsOf, dataOf, bytesAt}
+use Rattle.fields.specs.Fields.{fieldsOf, dataOf, bytesAt}
 use Rattle.frame.specs.declared.direction.Direction.the-variants.{Answer}
 use Rattle.frame.specs.declared.capture.Kind.{Kind}
 use Rattle.frame.specs.declared.capture.Kind.the-variants as kind
 use Rattle.frame.specs.declared.capture.Event.{Event}
-use Rattle.bytes.specs.declared.fields.Brought as fields
-use Rattle.bytes.specs.declared.fields.Brought.the-variants as brought
+use Rattle.fields.specs.declared.fields.Brought as fields
+use Rattle.fields.specs.declared.fields.Brought.the-variants as brought
 use Rattle.row.specs.declared.profile.Profile.{Profile}
 use Rattle.sheet.specs.declared.line.Line as sheet
-use Rattle.tracker.specs.Kept.{fresh}
+use Rattle.tracker.specs.Tracker.{fresh}
 use Rattle.tracker.specs.Feed.{Brought, fedAll}
 use Rattle.signing.specs.Sign.{signOff}
-use Rattle.tracker.specs.declared.kept.Tracker.{Tracker}
+use Rattle.tracker.specs.declared.tracker.Tracker.{Tracker}
 use Rattle.signing.specs.declared.sign.Signed.{Signed}
 use Rattle.signing.specs.declared.sign.Signed.the-variants as signed
 use Rattle.signing.specs.declared.capture.CaptureFed.{CaptureFed}

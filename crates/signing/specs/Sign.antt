@@ -8,10 +8,10 @@ use Rattle.sheet.specs.Check.{sheetVerdict}
 use Rattle.sheet.specs.declared.line.Line.{Line}
 use Rattle.sheet.specs.declared.check.Verdict.{Verdict}
 use Rattle.sheet.specs.declared.check.Verdict.the-variants as verdict
-use Rattle.tracker.specs.Kept.{keptIn}
-use Rattle.tracker.specs.declared.kept.Tracker.{Tracker}
-use Rattle.tracker.specs.declared.kept.Kept.{Kept}
-use Rattle.tracker.specs.declared.kept.Kept.the-variants as kept
+use Rattle.tracker.specs.Tracker.{keptIn}
+use Rattle.tracker.specs.declared.tracker.Tracker.{Tracker}
+use Rattle.tracker.specs.declared.tracker.Kept.{Kept}
+use Rattle.tracker.specs.declared.tracker.Kept.the-variants as kept
 use Rattle.signing.specs.declared.sign.Signed.{Signed}
 use Rattle.signing.specs.declared.sign.Signed.the-variants.{Yes, No, Refused}
 

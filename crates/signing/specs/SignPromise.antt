@@ -8,12 +8,12 @@ use Rattle.row.specs.declared.profile.Profile.{Profile}
 use Rattle.sheet.specs.Check.{sheetVerdict}
 use Rattle.sheet.specs.declared.line.Line.{Line}
 use Rattle.sheet.specs.declared.check.Verdict.the-variants as verdict
-use Rattle.tracker.specs.Kept.{fresh, keptIn}
+use Rattle.tracker.specs.Tracker.{fresh, keptIn}
 use Rattle.tracker.specs.Feed.{Brought, fedAll}
 use Rattle.signing.specs.Sign.{signOff}
 use Rattle.tracker.specs.HistoryPromise.{Last}
-use Rattle.tracker.specs.declared.kept.Tracker.{Tracker}
-use Rattle.tracker.specs.declared.kept.Kept.the-variants.{Value}
+use Rattle.tracker.specs.declared.tracker.Tracker.{Tracker}
+use Rattle.tracker.specs.declared.tracker.Kept.the-variants.{Value}
 use Rattle.signing.specs.declared.sign.Signed.the-variants.{Yes, No, Refused}
 
 -- every line's cell is known and equal

@@ -1,14 +1,14 @@
 use sheet::check::Verdict;
 use sheet::check::checked;
 use sheet::line::Line;
-use sheet::lines::SHEET_LIMIT;
-use sheet::lines::Sheet;
-use tracker::kept::Kept;
-use tracker::kept::Tracker;
-use tracker::kept::kept_in;
+use sheet::sheet::SHEET_LIMIT;
+use sheet::sheet::Sheet;
+use tracker::tracker::Kept;
+use tracker::tracker::Tracker;
+use tracker::tracker::kept_in;
 ghost use mathlib.Core.Path.{_≡_};
 ghost use Prim.Native.Nat.{_≤_};
-ghost use Rattle.sheet.specs.Lines.{sheetLimit, firstLines, linesOf};
+ghost use Rattle.sheet.specs.Sheet.{sheetLimit, firstLines, linesOf};
 ghost use Rattle.signing.specs.Sign.{holds, allHold, yesOrNo, signOff};
 
 // What a sign-off says: yes, no, or a refusal with its place.

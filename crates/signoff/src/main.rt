@@ -7,9 +7,9 @@ use message::read::Reading;
 use row::profile::Named;
 use row::profile::Profile;
 use sheet::line::Line;
-use sheet::lines::SHEET_LIMIT;
+use sheet::sheet::SHEET_LIMIT;
 use sheetfile::file::FileRead;
-use signing::plain::CaptureCell;
+use signing::by_letter::CaptureCell;
 use signing::sign::Signed;
 
 const OUT: i32 = 1;
@@ -45,13 +45,13 @@ fn main() {
     }
     sign(
         letter,
-        bytes::fields::bytes_at(&file, 0, length),
-        bytes::fields::bytes_at(&capture, 0, count),
+        fields::fields::bytes_at(&file, 0, length),
+        fields::fields::bytes_at(&capture, 0, count),
     );
 }
 
 fn sign(letter: u8, file: &[u8], capture: &[u8]) {
-    match signing::plain::sign_file(letter, file, capture) {
+    match signing::by_letter::sign_file(letter, file, capture) {
         Signed::Yes => {
             io::write_all(OUT, b"signed\n");
         }
@@ -97,7 +97,7 @@ fn each_line(letter: u8, lines: [Line; SHEET_LIMIT], count: usize, capture: &[u8
 }
 
 fn say_line(letter: u8, line: Line, capture: &[u8]) {
-    match signing::plain::cell_in_capture(letter, capture, line.zone, line.command) {
+    match signing::by_letter::cell_in_capture(letter, capture, line.zone, line.command) {
         CaptureCell::Value(value) => {
             if value != line.value {
                 say_wanted(letter, line);
@@ -225,7 +225,7 @@ fn first(word: &[u8]) -> u8 {
 // is room for; BAD, and says so, where it can't be read.
 fn read_argument(place: usize, word: &mut [u8], file: &mut [u8]) -> usize {
     let count = os::arg(place, word);
-    let path = bytes::fields::bytes_at(word, 0, count);
+    let path = fields::fields::bytes_at(word, 0, count);
     let fd = os::open_read(path);
     if fd < 0 {
         complain(b"can't open ", path);

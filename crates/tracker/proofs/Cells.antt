@@ -16,10 +16,10 @@ use Rattle.row.specs.declared.table.Row.{Row}
 use Rattle.row.specs.declared.table.Found.{Found}
 use Rattle.row.specs.declared.table.Found.the-variants as found
 use Rattle.row.proofs.Rows.{Each, each-found, none-at, code-at}
-use Rattle.rules.specs.Judge.{isSetting, blank, profileZone, noRow, rowZone, isMissing, rowIn, rowLines, rowJudged}
-use Rattle.rules.specs.declared.judge.Judged.{Judged}
-use Rattle.rules.specs.declared.judge.Judged.the-variants as judged
-use Rattle.rules.proofs.Judges.{judged-legal}
+use Rattle.judging.specs.Judge.{isSetting, blank, profileZone, noRow, rowZone, isMissing, rowIn, rowLines, rowJudged}
+use Rattle.judging.specs.declared.judge.Judged.{Judged}
+use Rattle.judging.specs.declared.judge.Judged.the-variants as judged
+use Rattle.judging.proofs.Judges.{judged-legal}
 use Rattle.sheet.specs.Line.{legalIn, isLegal}
 use Rattle.sheet.specs.declared.line.Line.{Line}
 use Rattle.tracker.specs.Cell.{cellCount, cellIn, cellOf}

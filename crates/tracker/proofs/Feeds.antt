@@ -8,7 +8,7 @@ use borrow.Author.Tests.{eqb-true}
 use lib.Dec.{eqb}
 use lib.ListN.{length, getD}
 use lib.Seq.{getD-set-same, getD-set-other}
-use Rattle.bytes.specs.Raw.{tooLong}
+use Rattle.fields.specs.Raw.{tooLong}
 use Rattle.frame.specs.declared.direction.Direction.the-variants.{Answer}
 use Rattle.frame.proofs.Ruled.{refuses, was-accepted, pass-first}
 use Rattle.row.specs.Profile.{letterOf}
@@ -17,22 +17,22 @@ use Rattle.row.specs.declared.profile.Profile.{Profile}
 use Rattle.row.specs.declared.table.Row.{Row}
 use Rattle.row.specs.declared.table.Found.{Found}
 use Rattle.row.proofs.Rows.{Each, each-found}
-use Rattle.rules.specs.Judge.{isAnswer, lengthOf, valueOf, isMissing, rowIn, judgeLines}
+use Rattle.judging.specs.Judge.{isAnswer, lengthOf, valueOf, isMissing, rowIn, judgeLines}
 use Rattle.message.specs.Message.{isDenial, wrongCode, said, denial, messageOf, readLines, readOf}
 use Rattle.message.specs.declared.read.Said.{Said}
 use Rattle.message.specs.declared.read.Message.{Message}
 use Rattle.message.specs.declared.read.Message.the-variants as message
 use Rattle.message.specs.declared.read.Reading.{Reading}
 use Rattle.message.specs.declared.read.Reading.the-variants as reading
-use Rattle.rules.proofs.Judges.{Passes, judge-passes}
+use Rattle.judging.proofs.Judges.{Passes, judge-passes}
 use Rattle.tracker.specs.Cell.{cellOf}
-use Rattle.tracker.specs.Kept.{knownState, isSpoilt, spoiltAt, spoiltIn, keptAt, keptIn}
+use Rattle.tracker.specs.Tracker.{knownState, isSpoilt, spoiltAt, spoiltIn, keptAt, keptIn}
 use Rattle.tracker.specs.Feed.{put, heard, after}
 use Rattle.tracker.specs.FeedPromise.{Whole, answered, FeedPromise}
 use Rattle.tracker.specs.declared.cell.Cell.{Cell}
 use Rattle.tracker.specs.declared.cell.Cell.the-variants as cell
-use Rattle.tracker.specs.declared.kept.Tracker.{Tracker}
-use Rattle.tracker.specs.declared.kept.Kept.the-variants.{Value, NoCell}
+use Rattle.tracker.specs.declared.tracker.Tracker.{Tracker}
+use Rattle.tracker.specs.declared.tracker.Kept.the-variants.{Value, NoCell}
 use Rattle.tracker.proofs.Cells.{the-found, placed, within, same-cell}
 
 -- a status brings the zone and command that were fed, and none of the lines applies to it

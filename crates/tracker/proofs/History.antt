@@ -17,14 +17,14 @@ use Rattle.message.specs.declared.read.Message.the-variants as message
 use Rattle.message.specs.declared.read.Reading.{Reading}
 use Rattle.message.specs.declared.read.Reading.the-variants as reading
 use Rattle.tracker.specs.Cell.{cellCount, cellOf}
-use Rattle.tracker.specs.Kept.{knownState, fresh, keptIn}
+use Rattle.tracker.specs.Tracker.{knownState, fresh, keptIn}
 use Rattle.tracker.specs.Feed.{put, after, Brought, fedAll}
 use Rattle.tracker.specs.FeedPromise.{Whole}
 use Rattle.tracker.specs.HistoryPromise.{IsStatus, NoneOf, Last, HistoryPromise}
 use Rattle.tracker.specs.declared.cell.Cell.{Cell}
 use Rattle.tracker.specs.declared.cell.Cell.the-variants as cell
-use Rattle.tracker.specs.declared.kept.Tracker.{Tracker}
-use Rattle.tracker.specs.declared.kept.Kept.the-variants.{Value, Unknown}
+use Rattle.tracker.specs.declared.tracker.Tracker.{Tracker}
+use Rattle.tracker.specs.declared.tracker.Kept.the-variants.{Value, Unknown}
 use Rattle.tracker.proofs.Feeds.{settle, after-status, feed-promise}
 
 -- a tracker of a profile with all of its cells

@@ -8,14 +8,14 @@ use Rattle.row.specs.Table.{placeOf, rowOf}
 use Rattle.row.specs.declared.profile.Profile.{Profile}
 use Rattle.row.specs.declared.table.Row.{Row}
 use Rattle.row.specs.declared.table.Found.the-variants as found
-use Rattle.rules.specs.Judge.{isSetting, rowJudged}
-use Rattle.rules.specs.declared.judge.Judged.the-variants as judged
+use Rattle.judging.specs.Judge.{isSetting, rowJudged}
+use Rattle.judging.specs.declared.judge.Judged.the-variants as judged
 use Rattle.sheet.specs.Line.{isSheetValue}
 use Rattle.tracker.specs.Cell.{cellCount, cellOf}
-use Rattle.tracker.specs.Kept.{knownState, keptIn}
+use Rattle.tracker.specs.Tracker.{knownState, keptIn}
 use Rattle.tracker.specs.CellPromise.{CellPromise, KeptPromise}
 use Rattle.tracker.specs.declared.cell.Cell.the-variants as cell
-use Rattle.tracker.specs.declared.kept.Tracker.{Tracker}
+use Rattle.tracker.specs.declared.tracker.Tracker.{Tracker}
 use Rattle.tracker.proofs.Cells.{within, same-cell}
 
 pub cell-promise : (profile : Profile) (zone command : ℕ) → CellPromise profile zone command

@@ -3,9 +3,9 @@ use Prim.Native.Nat.{ℕ, _+_, _-_, _*_}
 use mathlib.Core.Bool.{cond}
 use Rattle.row.specs.Table.{placeOf}
 use Rattle.row.specs.declared.profile.Profile.{Profile}
-use Rattle.rules.specs.Judge.{rowJudged}
-use Rattle.rules.specs.declared.judge.Judged.{Judged}
-use Rattle.rules.specs.declared.judge.Judged.the-variants as judged
+use Rattle.judging.specs.Judge.{rowJudged}
+use Rattle.judging.specs.declared.judge.Judged.{Judged}
+use Rattle.judging.specs.declared.judge.Judged.the-variants as judged
 use Rattle.tracker.specs.declared.cell.Cell.{Cell}
 use Rattle.tracker.specs.declared.cell.Cell.the-variants.{At, NoCell}
 

@@ -9,16 +9,16 @@ use Rattle.row.specs.Table.{rowOf}
 use Rattle.row.specs.declared.profile.Profile.{Profile}
 use Rattle.row.specs.declared.table.Row.{Row}
 use Rattle.row.specs.declared.table.Found.the-variants as found
-use Rattle.rules.specs.Judge.{rowJudged}
-use Rattle.rules.specs.declared.judge.Judged.the-variants as judged
+use Rattle.judging.specs.Judge.{rowJudged}
+use Rattle.judging.specs.declared.judge.Judged.the-variants as judged
 use Rattle.sheet.specs.Line.{isSheetValue}
 use Rattle.tracker.specs.Cell.{cellCount, cellOf}
-use Rattle.tracker.specs.Kept.{knownState, keptIn}
+use Rattle.tracker.specs.Tracker.{knownState, keptIn}
 use Rattle.tracker.specs.Numbers.{keptState, keptByte}
 use Rattle.tracker.specs.declared.cell.Cell.the-variants as cell
-use Rattle.tracker.specs.declared.kept.Tracker.{Tracker}
-use Rattle.tracker.specs.declared.kept.Kept.{Kept}
-use Rattle.tracker.specs.declared.kept.Kept.the-variants.{Unknown}
+use Rattle.tracker.specs.declared.tracker.Tracker.{Tracker}
+use Rattle.tracker.specs.declared.tracker.Kept.{Kept}
+use Rattle.tracker.specs.declared.tracker.Kept.the-variants.{Unknown}
 
 pub record CellPromise (profile : Profile) (zone command : ℕ) : Type 0 where
   pub there : (row : Row) → rowJudged profile zone command ≡ judged.Legal row → row .pair ≡ false → (i : ℕ) × (cellOf profile zone command ≡ cell.At i) × (i < cellCount)

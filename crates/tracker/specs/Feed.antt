@@ -10,10 +10,10 @@ use Rattle.message.specs.declared.read.Message.the-variants as message
 use Rattle.message.specs.declared.read.Reading.{Reading}
 use Rattle.message.specs.declared.read.Reading.the-variants as reading
 use Rattle.tracker.specs.Cell.{cellOf}
-use Rattle.tracker.specs.Kept.{knownState}
+use Rattle.tracker.specs.Tracker.{knownState}
 use Rattle.tracker.specs.declared.cell.Cell.{Cell}
 use Rattle.tracker.specs.declared.cell.Cell.the-variants as cell
-use Rattle.tracker.specs.declared.kept.Tracker.{Tracker}
+use Rattle.tracker.specs.declared.tracker.Tracker.{Tracker}
 use Rattle.tracker.specs.declared.feed.Fed.{Fed}
 
 -- one cell made known

@@ -12,11 +12,11 @@ use Rattle.message.specs.declared.read.Message.the-variants as message
 use Rattle.message.specs.declared.read.Reading.{Reading}
 use Rattle.message.specs.declared.read.Reading.the-variants as reading
 use Rattle.tracker.specs.Cell.{cellCount, cellOf}
-use Rattle.tracker.specs.Kept.{keptIn}
+use Rattle.tracker.specs.Tracker.{keptIn}
 use Rattle.tracker.specs.Feed.{after}
 use Rattle.tracker.specs.declared.cell.Cell.the-variants as cell
-use Rattle.tracker.specs.declared.kept.Tracker.{Tracker}
-use Rattle.tracker.specs.declared.kept.Kept.the-variants.{Value}
+use Rattle.tracker.specs.declared.tracker.Tracker.{Tracker}
+use Rattle.tracker.specs.declared.tracker.Kept.the-variants.{Value}
 
 -- a tracker with all of its cells, as every tracker of the code is
 abbrev pub Whole : Tracker → Type 0

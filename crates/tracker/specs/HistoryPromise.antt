@@ -11,10 +11,10 @@ use Rattle.message.specs.declared.read.Said.{Said}
 use Rattle.message.specs.declared.read.Message.the-variants as message
 use Rattle.message.specs.declared.read.Reading.the-variants as reading
 use Rattle.tracker.specs.Cell.{cellOf}
-use Rattle.tracker.specs.Kept.{fresh, keptIn}
+use Rattle.tracker.specs.Tracker.{fresh, keptIn}
 use Rattle.tracker.specs.Feed.{Brought, fedAll}
 use Rattle.tracker.specs.declared.cell.Cell.the-variants as cell
-use Rattle.tracker.specs.declared.kept.Kept.the-variants.{Value, Unknown}
+use Rattle.tracker.specs.declared.tracker.Kept.the-variants.{Value, Unknown}
 
 -- an answer that is a status of this zone and command
 abbrev pub IsStatus : Profile → ℕ → ℕ → Brought → Type 0

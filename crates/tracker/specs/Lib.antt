@@ -1,7 +1,7 @@
 -- What must be believed: a tracker's cells, what it keeps, what an answer makes of it, the numbers of the answers, and the
 -- promises of these.
 pub mod Cell
-pub mod Kept
+pub mod Tracker
 pub mod Feed
 pub mod Numbers
 pub mod CellPromise

@@ -4,8 +4,8 @@
 use Prim.Native.Nat.{ℕ}
 use mathlib.Core.List.{List}
 use Rattle.message.specs.Numbers.{readingNumber, Paper, readingPaper}
-use Rattle.tracker.specs.declared.kept.Kept.{Kept}
-use Rattle.tracker.specs.declared.kept.Kept.the-variants as kept
+use Rattle.tracker.specs.declared.tracker.Kept.{Kept}
+use Rattle.tracker.specs.declared.tracker.Kept.the-variants as kept
 use Rattle.tracker.specs.declared.feed.Fed.{Fed}
 
 -- what is kept: no refusal; 1 stands for a byte, 0 for unknown and 2 for no cell, for which the paper has no numbers; its byte

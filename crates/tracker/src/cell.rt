@@ -1,7 +1,7 @@
+use judging::judge::Judged;
+use judging::judge::judge_row;
 use row::profile::Profile;
 use row::table::row_place;
-use rules::judge::Judged;
-use rules::judge::judge_row;
 ghost use mathlib.Core.Path.{_≡_};
 ghost use Rattle.tracker.specs.Cell.{cellOf};
 

@@ -1,7 +1,7 @@
 use crate::cell::Cell;
 use crate::cell::cell_of;
-use crate::kept::KNOWN;
-use crate::kept::Tracker;
+use crate::tracker::KNOWN;
+use crate::tracker::Tracker;
 use frame::direction::Direction;
 use message::read::Message;
 use message::read::Reading;

@@ -1,4 +1,4 @@
 // What a unit has answered: one byte or unknown for each row and zone.
 pub mod cell;
 pub mod feed;
-pub mod kept;
+pub mod tracker;

@@ -7,7 +7,7 @@ use borrow.Author.Tests.{eqb-true, not-true}
 use lib.Dec.{eqb, leb}
 use lib.ListN.{length}
 use Rattle.frame.specs.Refusal.{Line}
-use Rattle.bytes.specs.Fields.{dataIn}
+use Rattle.fields.specs.Fields.{dataIn}
 use Rattle.frame.specs.declared.direction.Direction.the-variants.{Command}
 use Rattle.frame.proofs.Cases.{cases}
 use Rattle.frame.proofs.Ruled.{refuses, firstNumber, refused-with, accepted-by, pass-append}
@@ -15,16 +15,16 @@ use Rattle.row.specs.Table.{table, rowOf}
 use Rattle.row.specs.declared.profile.Profile.{Profile}
 use Rattle.row.specs.declared.table.Row.{Row}
 use Rattle.row.specs.declared.table.Found.the-variants as found
-use Rattle.rules.specs.Judge.{isSetting, isAnswer, isPair, rowIn, rowLines, judgeLines, rowJudged, wrongLength, wrongValue}
+use Rattle.judging.specs.Judge.{isSetting, isAnswer, isPair, rowIn, rowLines, judgeLines, rowJudged, wrongLength, wrongValue}
 use Rattle.message.specs.Content.{isOff, contentOf, numberCode, codeFits, isForm}
 use Rattle.message.specs.Message.{said, readOf}
-use Rattle.rules.specs.declared.judge.Judged.the-variants as judged
+use Rattle.judging.specs.declared.judge.Judged.the-variants as judged
 use Rattle.message.specs.declared.content.Content.{Content}
 use Rattle.message.specs.declared.content.Content.the-variants.{Request, Up, Down, On, Off, Toggle, LevellerOff, Number, Input}
 use Rattle.message.specs.declared.content.Encoded.{Encoded}
 use Rattle.message.specs.declared.content.Encoded.the-variants.{One, Two, NoCode}
 use Rattle.message.specs.declared.read.Reading.the-variants as reading
-use Rattle.rules.proofs.Judges.{judge-passes}
+use Rattle.judging.proofs.Judges.{judge-passes}
 use Rattle.message.proofs.Forms.{form-promise}
 use Rattle.message.proofs.Tests.{both, upto, upto-at}
 use Rattle.message.proofs.Tidy.{every, row-passes}

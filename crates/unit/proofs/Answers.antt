@@ -10,15 +10,15 @@ use lib.Dec.{eqb, leb}
 use lib.ListN.{length, getD}
 use Rattle.frame.specs.Refusal.{Line}
 use Rattle.frame.specs.Frame.{frameOf}
-use Rattle.bytes.specs.Fields.{dataIn}
+use Rattle.fields.specs.Fields.{dataIn}
 use Rattle.frame.specs.RulePromise.{First}
 use Rattle.frame.specs.declared.direction.Direction.the-variants.{Command, Answer}
-use Rattle.bytes.proofs.Back.{frame-promise}
+use Rattle.fields.proofs.Back.{frame-promise}
 use Rattle.frame.proofs.Cases.{cases}
 use Rattle.frame.proofs.Ruled.{was-accepted, accepted-by, append-pass, pass-both}
 use Rattle.row.specs.declared.profile.Profile.{Profile}
 use Rattle.row.specs.declared.table.Row.{Row}
-use Rattle.rules.specs.Judge.{isAnswer, isPair, rowLines, judgeLines, wrongLength, wrongValue}
+use Rattle.judging.specs.Judge.{isAnswer, isPair, rowLines, judgeLines, wrongLength, wrongValue}
 use Rattle.message.specs.Content.{contentOf, isForm}
 use Rattle.message.specs.Message.{said, readLines, readOf, fromReading, frameRead}
 use Rattle.message.specs.declared.content.Content.{Content}

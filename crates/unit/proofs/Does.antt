@@ -10,7 +10,7 @@ use Rattle.row.specs.declared.profile.Profile.{Profile}
 use Rattle.row.specs.declared.table.Row.{Row}
 use Rattle.row.specs.declared.table.Found.{Found}
 use Rattle.row.specs.declared.table.Found.the-variants as found
-use Rattle.rules.specs.Judge.{rowIn}
+use Rattle.judging.specs.Judge.{rowIn}
 use Rattle.message.specs.declared.read.Said.{Said}
 use Rattle.message.specs.declared.read.Message.the-variants as message
 use Rattle.message.specs.declared.read.Reading.the-variants as reading

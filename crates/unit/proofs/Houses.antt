@@ -20,7 +20,7 @@ use Rattle.row.specs.declared.signed.Coded.the-variants as number
 use Rattle.row.specs.declared.table.Row.{Row}
 use Rattle.row.specs.declared.table.Found.the-variants as found
 use Rattle.row.proofs.Inverse.{signed-promise}
-use Rattle.rules.specs.Judge.{isSetting, isAnswer, isWord}
+use Rattle.judging.specs.Judge.{isSetting, isAnswer, isWord}
 use Rattle.message.specs.Content.{isOff, numberIn, contentOf, encodedOf, encodedData, encodedCode, numberCode, codeFits, isForm}
 use Rattle.message.specs.declared.content.Content.{Content}
 use Rattle.message.specs.declared.content.Content.the-variants.{Request, Up, Down, On, Off, Toggle, LevellerOff, Number, Input}

@@ -13,15 +13,15 @@ use Rattle.row.specs.declared.profile.Profile.{Profile}
 use Rattle.row.specs.declared.table.Row.{Row}
 use Rattle.row.specs.declared.table.Found.{Found}
 use Rattle.row.specs.declared.table.Found.the-variants as found
-use Rattle.rules.specs.Judge.{isSetting, isMissing, rowIn, profileZone, noRow, rowZone, rowLines, rowJudged, judgedOf}
+use Rattle.judging.specs.Judge.{isSetting, isMissing, rowIn, profileZone, noRow, rowZone, rowLines, rowJudged, judgedOf}
 use Rattle.message.specs.Content.{contentOf}
 use Rattle.message.specs.Message.{readOf}
-use Rattle.rules.specs.declared.judge.Judged.{Judged}
-use Rattle.rules.specs.declared.judge.Judged.the-variants as judged
+use Rattle.judging.specs.declared.judge.Judged.{Judged}
+use Rattle.judging.specs.declared.judge.Judged.the-variants as judged
 use Rattle.message.specs.declared.content.Content.{Content}
 use Rattle.message.specs.declared.read.Message.the-variants as message
 use Rattle.message.specs.declared.read.Reading.the-variants as reading
-use Rattle.rules.proofs.Judges.{judged-legal, judge-legal}
+use Rattle.judging.proofs.Judges.{judged-legal, judge-legal}
 use Rattle.message.proofs.Readings.{said-legal, message-said}
 use Rattle.message.proofs.Tests.{both}
 use Rattle.message.proofs.Tidy.{every, row-passes}

@@ -6,8 +6,8 @@ use borrow.Author.Tests.{eqb-true}
 use lib.Dec.{eqb}
 use Rattle.row.specs.declared.profile.Profile.{Profile}
 use Rattle.row.specs.declared.table.Row.{Row}
-use Rattle.rules.specs.Judge.{isAnswer, isPair, rowJudged}
-use Rattle.rules.specs.declared.judge.Judged.the-variants as judged
+use Rattle.judging.specs.Judge.{isAnswer, isPair, rowJudged}
+use Rattle.judging.specs.declared.judge.Judged.the-variants as judged
 use Rattle.message.proofs.Tests.{both}
 use Rattle.unit.specs.Unit.{Cell, value, input, current, Settings, isCell, put}
 use Rattle.unit.specs.Legal.{Legal, RowIn}

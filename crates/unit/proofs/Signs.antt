@@ -20,14 +20,14 @@ use Rattle.message.specs.declared.read.Reading.{Reading}
 use Rattle.message.specs.declared.read.Reading.the-variants as reading
 use Rattle.message.specs.declared.read.FrameReading.the-variants as frame
 use Rattle.tracker.specs.Cell.{cellOf as trackerCell}
-use Rattle.tracker.specs.Kept.{fresh, keptIn}
+use Rattle.tracker.specs.Tracker.{fresh, keptIn}
 use Rattle.tracker.specs.Feed.{Brought, fedAll}
 use Rattle.tracker.specs.HistoryPromise.{IsStatus, NoneOf, Last, HistoryPromise}
 use Rattle.signing.specs.SignPromise.{AllHold}
 use Rattle.signing.specs.Capture.{broughtBy}
-use Rattle.tracker.specs.declared.kept.Tracker.{Tracker}
+use Rattle.tracker.specs.declared.tracker.Tracker.{Tracker}
 use Rattle.tracker.specs.declared.cell.Cell.the-variants as cell
-use Rattle.tracker.specs.declared.kept.Kept.the-variants.{Value}
+use Rattle.tracker.specs.declared.tracker.Kept.the-variants.{Value}
 use Rattle.tracker.proofs.Cells.{legal-cell}
 use Rattle.signing.proofs.Frames.{brought-none, brought-one}
 use Rattle.tracker.proofs.History.{history-promise}

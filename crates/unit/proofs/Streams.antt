@@ -11,14 +11,14 @@ use lib.Dec.{eqb}
 use Rattle.frame.specs.Frame.{opens, dl}
 use Rattle.frame.specs.Reader.{answerTo, takenAfter, takenBy}
 use Rattle.frame.specs.Meaning.{Means}
-use Rattle.bytes.specs.Fields.{isFrame}
+use Rattle.fields.specs.Fields.{isFrame}
 use Rattle.frame.specs.declared.reader.ByteAnswer.{ByteAnswer}
 use Rattle.frame.specs.declared.reader.ByteAnswer.the-variants.{Waiting, Noise, Frame, Broken}
 use Rattle.frame.specs.declared.direction.Direction.the-variants.{Command}
 use Rattle.frame.proofs.Cases.{cases}
 use Rattle.frame.proofs.Taken.{dl-more, stands-by}
 use Rattle.frame.proofs.Means.{means}
-use Rattle.bytes.proofs.Whole.{whole-is}
+use Rattle.fields.proofs.Whole.{whole-is}
 use Rattle.row.specs.declared.profile.Profile.{Profile}
 use Rattle.message.specs.Message.{frameRead}
 use Rattle.unit.specs.Unit.{current, Done, nothing, frameDone, Unit, byteDone, done, takes, after, replies}

@@ -9,7 +9,7 @@ use borrow.Author.Tests.{eqb-true, eqb-false}
 use lib.Dec.{eqb}
 use lib.ListN.{length}
 use Rattle.frame.specs.Frame.{frameOf}
-use Rattle.bytes.specs.Fields.{dataIn}
+use Rattle.fields.specs.Fields.{dataIn}
 use Rattle.frame.specs.declared.direction.Direction.the-variants.{Command, Answer}
 use Rattle.row.specs.declared.profile.Profile.{Profile}
 use Rattle.message.specs.Content.{contentOf}
@@ -19,7 +19,7 @@ use Rattle.message.specs.declared.read.Message.the-variants as message
 use Rattle.message.specs.declared.read.Reading.the-variants as reading
 use Rattle.sheet.specs.declared.line.Line.{Line}
 use Rattle.tracker.specs.Cell.{cellOf}
-use Rattle.tracker.specs.Kept.{fresh, keptIn}
+use Rattle.tracker.specs.Tracker.{fresh, keptIn}
 use Rattle.tracker.specs.Feed as feed
 use Rattle.tracker.specs.Feed.{Brought, fedAll}
 use Rattle.tracker.specs.FeedPromise.{FeedPromise}
@@ -28,8 +28,8 @@ use Rattle.signing.specs.SignPromise.{AllHold}
 use Rattle.signing.specs.Capture.{broughtBy}
 use Rattle.tracker.specs.declared.cell.Cell as tracked
 use Rattle.tracker.specs.declared.cell.Cell.the-variants as cell
-use Rattle.tracker.specs.declared.kept.Tracker.{Tracker}
-use Rattle.tracker.specs.declared.kept.Kept.the-variants as kept
+use Rattle.tracker.specs.declared.tracker.Tracker.{Tracker}
+use Rattle.tracker.specs.declared.tracker.Kept.the-variants as kept
 use Rattle.signing.specs.declared.sign.Signed.the-variants.{Yes}
 use Rattle.tracker.proofs.Feeds.{feed-promise}
 use Rattle.tracker.proofs.History.{Fit, fit-all, fed-append, history-promise}

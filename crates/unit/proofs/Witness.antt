@@ -14,7 +14,7 @@ use Rattle.row.specs.Table.{table, firstRow}
 use Rattle.row.specs.declared.profile.Profile.{Profile}
 use Rattle.row.specs.declared.profile.Profile.the-variants.{A}
 use Rattle.row.specs.declared.table.Row.{Row}
-use Rattle.rules.specs.Judge.{isAnswer, rowJudged}
+use Rattle.judging.specs.Judge.{isAnswer, rowJudged}
 use Rattle.message.specs.Content.{contentOf}
 use Rattle.message.specs.Message.{readOf}
 use Rattle.message.proofs.Tidy.{every, row-passes}

@@ -6,7 +6,7 @@ use Rattle.row.specs.declared.profile.Named.{Named}
 use Rattle.sheet.specs.Check.{sheetVerdict}
 use Rattle.sheetfile.specs.File.{records, linesIn, fileVerdict}
 use Rattle.sheetfile.specs.Run.{runOf}
-use Rattle.sheetfile.specs.Plain.{fileRunAnswered, fileRunLeft}
+use Rattle.sheetfile.specs.ByLetter.{fileRunAnswered, fileRunLeft}
 use Rattle.sheet.specs.declared.check.Verdict.the-variants as verdict
 use Rattle.sheetfile.proofs.Trips.{accepted-marked}
 use Rattle.sheetfile.proofs.Writes.{wrote}

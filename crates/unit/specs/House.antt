@@ -6,7 +6,7 @@ use lib.IntN.{ℤ, sucℤ, predℤ}
 use Rattle.row.specs.Profile.{letterOf}
 use Rattle.row.specs.declared.profile.Profile.the-variants.{A}
 use Rattle.row.specs.declared.table.Row.{Row}
-use Rattle.rules.specs.Judge.{isAnswer}
+use Rattle.judging.specs.Judge.{isAnswer}
 use Rattle.message.specs.Content.{isOff, numberIn, numberCode}
 use Rattle.message.specs.declared.content.Content.{Content}
 use Rattle.message.specs.declared.content.Content.the-variants.{Request, Up, Down, On, Off, Toggle, LevellerOff, Number, Input}

@@ -11,7 +11,7 @@ use Rattle.row.specs.Table.{rowOf}
 use Rattle.row.specs.declared.profile.Profile.{Profile}
 use Rattle.row.specs.declared.table.Row.{Row}
 use Rattle.row.specs.declared.table.Found.the-variants as found
-use Rattle.rules.specs.Judge.{isSetting, isAnswer}
+use Rattle.judging.specs.Judge.{isSetting, isAnswer}
 use Rattle.message.specs.Content.{isOff, numberIn, contentOf, isForm}
 use Rattle.message.specs.declared.content.Content.{Content}
 use Rattle.message.specs.declared.content.Content.the-variants.{Request, Up, Down, On, Off, Toggle}

@@ -4,8 +4,8 @@ use mathlib.Core.Path.{_≡_}
 use mathlib.Core.Bool.{true, false}
 use Rattle.row.specs.declared.profile.Profile.{Profile}
 use Rattle.row.specs.declared.table.Row.{Row}
-use Rattle.rules.specs.Judge.{isAnswer, isPair, rowJudged}
-use Rattle.rules.specs.declared.judge.Judged.the-variants as judged
+use Rattle.judging.specs.Judge.{isAnswer, isPair, rowJudged}
+use Rattle.judging.specs.declared.judge.Judged.the-variants as judged
 use Rattle.unit.specs.Unit.{Settings, value, input, current}
 
 -- a row that a profile has in a zone

@@ -5,7 +5,7 @@ use mathlib.Core.Path.{_≡_}
 use mathlib.Core.Bool.{true, false}
 use Rattle.row.specs.declared.profile.Profile.{Profile}
 use Rattle.row.specs.declared.table.Row.{Row}
-use Rattle.rules.specs.Judge.{isAnswer, isPair}
+use Rattle.judging.specs.Judge.{isAnswer, isPair}
 use Rattle.unit.specs.Unit.{Cell, value, input, current, Settings, put}
 use Rattle.unit.specs.Legal.{Legal, RowIn}
 

@@ -12,12 +12,12 @@ use Rattle.sheet.specs.Check.{sheetVerdict}
 use Rattle.sheetfile.specs.Run.{runOf}
 use Rattle.sheet.specs.declared.line.Line.{Line}
 use Rattle.sheet.specs.declared.check.Verdict.the-variants as verdict
-use Rattle.tracker.specs.Kept.{fresh, keptIn}
+use Rattle.tracker.specs.Tracker.{fresh, keptIn}
 use Rattle.tracker.specs.Feed.{fedAll}
 use Rattle.signing.specs.Sign.{signOff}
 use Rattle.signing.specs.Capture.{broughtBy, captureSigned}
-use Rattle.tracker.specs.declared.kept.Tracker.{Tracker}
-use Rattle.tracker.specs.declared.kept.Kept.the-variants.{Value}
+use Rattle.tracker.specs.declared.tracker.Tracker.{Tracker}
+use Rattle.tracker.specs.declared.tracker.Kept.the-variants.{Value}
 use Rattle.signing.specs.declared.sign.Signed.the-variants.{Yes}
 use Rattle.unit.specs.Unit.{value, Settings, Unit, Holds, after, replies}
 use Rattle.unit.specs.Legal.{Legal}

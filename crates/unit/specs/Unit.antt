@@ -6,14 +6,14 @@ use mathlib.Core.List.{List, [], _∷_, _++_}
 use lib.Dec.{eqb}
 use Rattle.frame.specs.Frame.{frameOf}
 use Rattle.frame.specs.Reader.{answerTo, takenAfter}
-use Rattle.bytes.specs.Fields.{fieldsIn, dataIn}
+use Rattle.fields.specs.Fields.{fieldsIn, dataIn}
 use Rattle.frame.specs.declared.direction.Direction.the-variants.{Command, Answer}
 use Rattle.frame.specs.declared.reader.ByteAnswer.{ByteAnswer}
 use Rattle.frame.specs.declared.reader.ByteAnswer.the-variants.{Waiting, Noise, Frame, Broken}
 use Rattle.row.specs.Table.{rowOf}
 use Rattle.row.specs.declared.profile.Profile.{Profile}
 use Rattle.row.specs.declared.table.Row.{Row}
-use Rattle.rules.specs.Judge.{rowIn}
+use Rattle.judging.specs.Judge.{rowIn}
 use Rattle.message.specs.Content.{encodedOf}
 use Rattle.message.specs.Message.{readOf}
 use Rattle.message.specs.declared.content.Content.{Content}

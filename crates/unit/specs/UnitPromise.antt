@@ -12,7 +12,7 @@ use Rattle.row.specs.Table.{rowOf}
 use Rattle.row.specs.declared.profile.Profile.{Profile}
 use Rattle.row.specs.declared.table.Row.{Row}
 use Rattle.row.specs.declared.table.Found.the-variants as found
-use Rattle.rules.specs.Judge.{rowIn}
+use Rattle.judging.specs.Judge.{rowIn}
 use Rattle.message.specs.Content.{contentOf}
 use Rattle.message.specs.Message.{fromReading, frameRead}
 use Rattle.message.specs.declared.content.Content.the-variants.{Request, Input}

@@ -9,7 +9,7 @@ use Rattle.row.specs.declared.profile.Profile.{Profile}
 use Rattle.row.specs.declared.profile.Named.the-variants as named
 use Rattle.sheetfile.specs.File.{records, linesIn}
 use Rattle.sheetfile.specs.Written.{runAnswered, runLeft}
-use Rattle.sheetfile.specs.Plain.{fileRunAnswered, fileRunLeft}
+use Rattle.sheetfile.specs.ByLetter.{fileRunAnswered, fileRunLeft}
 use Rattle.sheet.specs.declared.line.Line.{Line}
 use Rattle.sheetfile.specs.declared.write.SheetWritten.the-variants as written
 use Rattle.unit.specs.Unit.{Settings}

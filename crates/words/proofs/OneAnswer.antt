@@ -4,7 +4,7 @@ use mathlib.Core.Bool.{Bool}
 use mathlib.Core.List.{List}
 use Prim.Native.Nat.{ℕ}
 use Rattle.frame.specs.OneAnswer.{OneAnswer}
-use Rattle.bytes.proofs.OneAnswer.{one, one-lent}
+use Rattle.fields.proofs.OneAnswer.{one, one-lent}
 use Rattle.words.specs.Arguments.{noneOf, letterIn, closedOf, decodedIn, argumentIn, byteOf, numberOf}
 use Rattle.words.specs.Names.{operationOf}
 use Rattle.words.specs.declared.arguments.Arguments.{Arguments}

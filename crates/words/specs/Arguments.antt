@@ -4,7 +4,7 @@ use mathlib.Core.Bool.{cond}
 use mathlib.Core.List.{List, [], _∷_}
 use lib.Dec.{eqb, leb, ltb}
 use lib.ListN.{length, getD, set, replicate}
-use Rattle.bytes.specs.Fields.{bytesAt}
+use Rattle.fields.specs.Fields.{bytesAt}
 use Rattle.words.specs.declared.arguments.Arguments.{Arguments}
 
 -- nothing is taken; 16 stands for a word with no characters

@@ -1,5 +1,5 @@
 // The arguments of a line, character by character, and what they are.
-use bytes::fields::bytes_at;
+use fields::fields::bytes_at;
 ghost use mathlib.Core.Path.{_≡_};
 ghost use Rattle.words.specs.Arguments.{noneOf, letterIn, badOf, closedOf, openedOf, namedOf, dashedOf, digitOf, inWordOf, takenOf, keptOf, decodedIn, argumentIn, byteOf, longerBy, numberOf};
 

@@ -3,8 +3,8 @@ use mathlib.Core.Path.{_≡_, sym, _∙_}
 use native.Mathlib.Omega.{arith}
 use lib.ListN.{length}
 use borrow.Author.Needs.{needs}
-use Rattle.text.specs.Pieces.{linesIn}
-use Rattle.text.proofs.Whole.{answered-fewer}
+use Rattle.listing_pieces.specs.Pieces.{linesIn}
+use Rattle.listing_pieces.proofs.Whole.{answered-fewer}
 use Rattle.listing.proofs.list.Statement.{statement}
 use Rattle.listing.proofs.list.Tie as tie
 

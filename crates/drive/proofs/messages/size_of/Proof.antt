@@ -1,7 +1,7 @@
 -- `drive::messages::size_of` is safe and ends: its tests and sums are of the number itself, since it fits.
 use mir.Facts.{toZ-ofZ}
 use lib.IntN.{pos, _-ℤ_}
-use Rattle.text.proofs.Sizes.{Sized, wide, turned, itself}
+use Rattle.listing_pieces.proofs.Sizes.{Sized, wide, turned, itself}
 use borrow.Author.Needs.{needs}
 use Rattle.drive.proofs.messages.size_of.Statement.{statement}
 use Rattle.drive.proofs.messages.size_of.Tie as tie

@@ -1,6 +1,6 @@
 -- `frame::reader::take` meets its contract.
 use borrow.Author.Tests.{eq-eqb, ne-eqb, le-leb, lt-leb, lt-ltb, le-ltb}
-use Rattle.frame.specs.Small.{fedAt}
+use Rattle.frame.specs.KeptReader.{fedAt}
 use borrow.Author.Needs.{needs}
 use Rattle.frame.proofs.reader.take.Statement.{statement}
 use Rattle.frame.proofs.reader.take.Tie as tie

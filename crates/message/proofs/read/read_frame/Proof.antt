@@ -1,6 +1,6 @@
 -- `message::read::read_frame` meets its contract.
 use mathlib.Core.Path.{sym, _∙_, ap}
-use Rattle.message.specs.Passed.{readingOn}
+use Rattle.message.specs.Computed.{readingOn}
 use Rattle.message.proofs.Readings.{frame-none, frame-some}
 use borrow.Author.Needs.{needs}
 use Rattle.message.proofs.read.read_frame.Statement.{statement}

@@ -1,5 +1,5 @@
 -- `message::read::read_said` meets its contract.
-use Rattle.message.specs.Passed.{judgedOn}
+use Rattle.message.specs.Computed.{judgedOn}
 use mathlib.Core.Path.{sym, _∙_, ap}
 use Rattle.message.proofs.Readings.{said-refused, said-legal, legal-some}
 use borrow.Author.Needs.{needs}

@@ -1,5 +1,5 @@
 -- `message::read::read_status` meets its contract.
-use Rattle.message.specs.Passed.{saidOn}
+use Rattle.message.specs.Computed.{saidOn}
 use mathlib.Core.Path.{sym, _∙_, ap}
 use Rattle.message.proofs.Readings.{said-refused, message-refused, message-said}
 use Rattle.message.specs.Message.{readOf}

@@ -3,7 +3,7 @@ use Rattle.frame.specs.Frame.{frameOf}
 use mathlib.Core.Path.{sym, _∙_, ap}
 use Rattle.message.proofs.Writes.{raw-said-short, raw-left-short, fields-refused, fields-message}
 use Rattle.message.specs.Write.{fieldsAnswered, fieldsLeft}
-use Rattle.message.specs.Passed.{readingWritten}
+use Rattle.message.specs.Computed.{readingWritten}
 use borrow.Author.Needs.{needs}
 use Rattle.message.proofs.write.write_fields.Statement.{statement}
 use Rattle.message.proofs.write.write_fields.Tie as tie

@@ -2,11 +2,11 @@
 use Prim.Native.Nat.{ℕ}
 use borrow.Author.Tests.{not-true, not-false}
 use Rattle.frame.specs.Frame.{frameOf}
-use Rattle.rules.specs.Judge.{lengthOf}
+use Rattle.judging.specs.Judge.{lengthOf}
 use Rattle.message.specs.Write.{saidData}
 use mathlib.Core.Path.{sym, _∙_, ap}
 use Rattle.message.proofs.Writes.{said-refused, said-length, said-form, said-good}
-use Rattle.message.specs.Passed.{judgedWritten}
+use Rattle.message.specs.Computed.{judgedWritten}
 use borrow.Author.Needs.{needs}
 use Rattle.message.proofs.write.write_said.Statement.{statement}
 use Rattle.message.proofs.write.write_said.Tie as tie

@@ -1,6 +1,6 @@
 -- `sheet::line::is_sheet_value` meets its contract.
 use mathlib.Core.Bool.{Bool, _&&_}
-use Rattle.rules.specs.Judge.{isSetting}
+use Rattle.judging.specs.Judge.{isSetting}
 use mathlib.Core.Path.{sym, _∙_, ap}
 use borrow.Author.Tests.{not-true, not-false}
 use borrow.Author.Needs.{needs}

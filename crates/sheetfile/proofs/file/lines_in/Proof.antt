@@ -2,7 +2,7 @@
 use mathlib.Core.Path.{_≡_, sym, _∙_}
 use Prim.Native.Nat.{_-_, _*_, _≤_}
 use lib.ListN.{drop}
-use Rattle.sheet.specs.Lines.{withAll}
+use Rattle.sheet.specs.Sheet.{withAll}
 use Rattle.sheetfile.specs.File.{recordSize, records, linesIn}
 use Rattle.sheetfile.proofs.Records.{lines-on, lines-end}
 use borrow.Author.Needs.{needs}

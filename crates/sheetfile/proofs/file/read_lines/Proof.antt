@@ -1,10 +1,10 @@
 -- `sheetfile::file::read_lines` meets its contract.
 use mathlib.Core.Path.{sym, ap, _∙_}
-use Rattle.sheet.specs.Lines.{linesOf}
+use Rattle.sheet.specs.Sheet.{linesOf}
 use Rattle.sheet.specs.Check.{sheetVerdict}
 use Rattle.sheetfile.specs.File.{records, linesIn, readBy}
 use Rattle.sheet.specs.declared.check.Verdict.{Verdict}
-use Rattle.sheet.specs.declared.lines.Sheet.{Sheet}
+use Rattle.sheet.specs.declared.sheet.Sheet.{Sheet}
 use Rattle.sheet.proofs.Sheets.{verdict-together}
 use borrow.Author.Needs.{needs}
 use Rattle.sheetfile.proofs.file.read_lines.Statement.{statement}

@@ -6,7 +6,7 @@ use borrow.Rule.Slice.PartMut.{same-len-mid}
 use Prim.Native.Nat.{ℕ, _+_, _-_, _*_, _≤_}
 use lib.ListN.{length, take, drop, getD}
 use lib.Seq.{length-take-le}
-use Rattle.sheet.specs.Lines.{noLine}
+use Rattle.sheet.specs.Sheet.{noLine}
 use Rattle.sheetfile.specs.Order.{inOrder}
 use Rattle.sheetfile.specs.File.{recordSize}
 use Rattle.sheetfile.specs.Computed.{bytesOf}

@@ -1,8 +1,8 @@
 -- `signing::capture::capture_signs` meets its contract.
 use mathlib.Core.Path.{sym, ap, _∙_}
-use Rattle.sheet.specs.Lines.{linesOf}
+use Rattle.sheet.specs.Sheet.{linesOf}
 use Rattle.signing.specs.Capture.{captureFed}
-use Rattle.tracker.specs.declared.kept.Tracker.{Tracker}
+use Rattle.tracker.specs.declared.tracker.Tracker.{Tracker}
 use Rattle.signing.proofs.CaptureSigns.{signs-fed, signs-refused}
 use borrow.Author.Needs.{needs}
 use Rattle.signing.proofs.capture.capture_signs.Statement.{statement}

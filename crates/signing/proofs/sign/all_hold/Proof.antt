@@ -3,7 +3,7 @@ use mathlib.Core.Path.{_≡_, sym, ap, _∙_}
 use Prim.Native.Nat.{_-_, _≤_}
 use borrow.Author.Tests.{not-true, not-false}
 use lib.ListN.{length, take, drop}
-use Rattle.sheet.specs.Lines.{noLine}
+use Rattle.sheet.specs.Sheet.{noLine}
 use Rattle.sheet.proofs.Faults.{first-short}
 use Rattle.signing.specs.Sign.{allHold}
 use Rattle.signing.proofs.Signs.{stops, goes-on, ends}

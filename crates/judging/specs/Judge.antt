@@ -1,0 +1,119 @@
+-- Document 01, 'Commands of the two profiles' and 'Refusal numbers', lines 1 to 4.
+use Prim.Native.Nat.{ℕ}
+use mathlib.Core.Bool.{Bool, true, false, cond, not, _&&_, _||_}
+use mathlib.Core.List.{List, [], _∷_, _++_}
+use lib.Dec.{eqb, leb, ltb}
+use lib.ListN.{length, getD}
+use Rattle.frame.specs.Refusal.{Line, line, ruled}
+use Rattle.frame.specs.declared.direction.Direction.{Direction}
+use Rattle.frame.specs.declared.direction.Direction.the-variants.{Command, Answer}
+use Rattle.row.specs.Profile.{zonesOf}
+use Rattle.row.specs.Table.{rowOf, none}
+use Rattle.row.specs.declared.profile.Profile.{Profile}
+use Rattle.row.specs.declared.table.Codes.{Codes}
+use Rattle.row.specs.declared.table.Row.{Row}
+use Rattle.row.specs.declared.table.Found.{Found}
+use Rattle.row.specs.declared.table.Found.the-variants as found
+use Rattle.judging.specs.declared.judge.Judged.{Judged}
+use Rattle.judging.specs.declared.judge.Judged.the-variants.{Legal, Refused}
+
+-- a code among a row's codes
+abbrev pub within : Codes → ℕ → Bool
+within codes b = leb (codes .low) b && leb b (codes .high)
+
+abbrev pub isSetting : Row → ℕ → Bool
+isSetting row b = within (row .settings) b || within (row .settings2) b
+
+abbrev pub isAnswer : Row → ℕ → Bool
+isAnswer row b = within (row .answers) b || within (row .answers2) b
+
+-- a word of a row: request, step, on, off or toggle. "F0 requests, F1 steps up, F2 steps down", where the row lists them; A 37: "F1 on, F2 off"; S 0E: "02 toggle"
+abbrev pub isWord : Row → ℕ → Bool
+isWord row b =
+    cond (eqb b 0xF0) (row .request)
+    (cond (eqb b 0xF1 || eqb b 0xF2) (row .steps || row .switch)
+    (cond (eqb b 0x02) (row .toggle) false))
+
+-- S 0F: "input, 00/01"; "Inputs of S 0F: 01, 02, 03, 05, 06."
+abbrev pub isPair : Row → ℕ → ℕ → Bool
+isPair row input state = row .pair && (leb state 1 && isAnswer row input)
+
+-- "Data is one byte everywhere, except S 0F, whose setting command and answer have two."
+abbrev pub oneByte : Direction → Row → Bool
+oneByte Command row = true
+oneByte Answer row = not (row .pair)
+
+abbrev pub lengthOf : Direction → Row → ℕ → Bool
+lengthOf dir row n = cond (eqb n 2) (row .pair) (eqb n 1 && oneByte dir row)
+
+-- one byte of data
+abbrev pub byteOf : Direction → Row → ℕ → Bool
+byteOf Command row b = isSetting row b || isWord row b
+byteOf Answer row b = isAnswer row b
+
+-- data of one byte or two
+abbrev pub valueOf : Direction → Row → List ℕ → Bool
+valueOf dir row body = cond (eqb (length body) 2) (isPair row (getD body 0 0) (getD body 1 0)) (byteOf dir row (getD body 0 0))
+
+-- 1: "zone not of the profile, or not 1 in a zone-1 row"
+abbrev pub profileZone : Profile → ℕ → Line
+profileZone profile zone = line 1 (eqb zone 0 || ltb (zonesOf profile) zone)
+
+abbrev pub rowZone : Row → ℕ → Line
+rowZone row zone = line 1 (ltb (row .zones) zone)
+
+-- 2: "command without a row in the profile"
+abbrev pub isMissing : Found → Bool
+isMissing (found.Row row) = false
+isMissing found.NoRow = true
+
+abbrev pub noRow : Profile → ℕ → Line
+noRow profile command = line 2 (isMissing (rowOf profile command))
+
+-- 3: "data length that the row and direction lack"; 4: "data value that the row and direction lack"
+abbrev pub wrongLength : Direction → Row → ℕ → Line
+wrongLength dir row n = line 3 (not (lengthOf dir row n))
+
+abbrev pub wrongValue : Direction → Row → List ℕ → Line
+wrongValue dir row body = line 4 (not (valueOf dir row body))
+
+-- the row of a command; where there is none, line 2 has refused it
+abbrev pub blank : Row
+blank = record {
+  profile = 0;
+  code = 0;
+  zones = 0;
+  settings = none;
+  settings2 = none;
+  answers = none;
+  answers2 = none;
+  request = false;
+  steps = false;
+  switch = false;
+  toggle = false;
+  pair = false;
+  signed = false;
+  off = false;
+  sheet = false;
+}
+
+abbrev pub rowIn : Found → Row
+rowIn (found.Row row) = row
+rowIn found.NoRow = blank
+
+-- "Commands: zone of the profile, row, zone of the row, 3, 4."
+abbrev pub rowLines : Profile → ℕ → ℕ → List Line
+rowLines profile zone command = profileZone profile zone ∷ noRow profile command ∷ rowZone (rowIn (rowOf profile command)) zone ∷ []
+
+abbrev pub judgeLines : Profile → Direction → ℕ → ℕ → List ℕ → List Line
+judgeLines profile dir zone command body =
+    rowLines profile zone command
+    ++ wrongLength dir (rowIn (rowOf profile command)) (length body)
+    ∷ wrongValue dir (rowIn (rowOf profile command)) body
+    ∷ []
+
+unfoldable pub rowJudged : Profile → ℕ → ℕ → Judged
+rowJudged profile zone command = ruled (rowLines profile zone command) Refused (Legal (rowIn (rowOf profile command)))
+
+unfoldable pub judgedOf : Profile → Direction → ℕ → ℕ → List ℕ → Judged
+judgedOf profile dir zone command body = ruled (judgeLines profile dir zone command body) Refused (Legal (rowIn (rowOf profile command)))

@@ -1,0 +1,43 @@
+// What an input of the listing program asks for.
+use frame::capture::CAPTURE_LIMIT;
+use frame::direction::Direction;
+use frame::direction::direction_of;
+use row::profile::Profile;
+use row::profile::profile_of;
+ghost use mathlib.Core.Path.{_≡_};
+ghost use Rattle.frame.specs.Letter.{directionOf};
+ghost use Rattle.row.specs.declared.profile.Named.the-variants as family;
+ghost use Rattle.listing_text.specs.Listing.{askedBy, asked};
+
+// The listing of the capture behind the letters, or the number of a refusal.
+pub enum Asked {
+    Listing(Profile, Direction),
+    Refused(u8),
+}
+
+// The two letters, and a capture of at most 60,000 bytes behind them.
+pub fn what_is_asked(input: &[u8]) -> Asked
+    ensures { λ r. ⌜ r ≡ asked (now (input .entry)) ⌝ }
+{
+    if input.len() < 2 {
+        return Asked::Refused(12);
+    }
+    match profile_of(input[0]) {
+        row::profile::Named::Profile(profile) => asked_of(profile, input[1], input.len() - 2),
+        row::profile::Named::Refused(number) => Asked::Refused(number),
+    }
+}
+
+fn asked_of(profile: Profile, letter: u8, count: usize) -> Asked
+    ensures { λ r. ⌜ r ≡ askedBy (family.Profile profile) (directionOf letter) count ⌝ }
+{
+    match direction_of(letter) {
+        frame::direction::Named::Direction(direction) => {
+            if count > CAPTURE_LIMIT {
+                return Asked::Refused(11);
+            }
+            Asked::Listing(profile, direction)
+        }
+        frame::direction::Named::Refused(number) => Asked::Refused(number),
+    }
+}

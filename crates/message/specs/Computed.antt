@@ -1,0 +1,57 @@
+-- What the private functions compute: nothing here need be believed. How a refusal's number is passed on, from one answer's kind
+-- to the next (what is no refusal never comes there); what a command or a status says; and whether a message is a denial.
+use Prim.Native.Nat.{ℕ}
+use mathlib.Core.Bool.{Bool, true, false}
+use mathlib.Core.List.{List}
+use Rattle.frame.specs.Refusal.{ruled}
+use Rattle.frame.specs.declared.direction.Direction.{Direction}
+use Rattle.row.specs.declared.profile.Profile.{Profile}
+use Rattle.judging.specs.Judge.{judgeLines}
+use Rattle.message.specs.Message.{said}
+use Rattle.message.specs.declared.read.Message.{Message}
+use Rattle.message.specs.declared.read.Message.the-variants as message
+use Rattle.fields.specs.declared.raw.Written.{Written}
+use Rattle.fields.specs.declared.raw.Written.the-variants as written
+use Rattle.judging.specs.declared.judge.Judged.{Judged}
+use Rattle.judging.specs.declared.judge.Judged.the-variants as judged
+use Rattle.message.specs.declared.read.SaidReading.{SaidReading}
+use Rattle.message.specs.declared.read.SaidReading.the-variants as sayings
+use Rattle.message.specs.declared.read.Reading.{Reading}
+use Rattle.message.specs.declared.read.Reading.the-variants as reading
+use Rattle.message.specs.declared.read.FrameReading.{FrameReading}
+use Rattle.message.specs.declared.read.FrameReading.the-variants as frame
+
+abbrev pub judgedOn : Judged → SaidReading
+judgedOn (judged.Legal row) = sayings.Refused 0
+judgedOn (judged.Refused n) = sayings.Refused n
+
+abbrev pub saidOn : SaidReading → Reading
+saidOn (sayings.Said s) = reading.Refused 0
+saidOn (sayings.Refused n) = reading.Refused n
+
+abbrev pub readingOn : Reading → FrameReading
+readingOn (reading.Message m) = frame.Refused 0
+readingOn (reading.Refused n) = frame.Refused n
+
+abbrev pub judgedWritten : Judged → Written
+judgedWritten (judged.Legal row) = written.Refused 0
+judgedWritten (judged.Refused n) = written.Refused n
+
+abbrev pub readingWritten : Reading → Written
+readingWritten (reading.Message m) = written.Refused 0
+readingWritten (reading.Refused n) = written.Refused n
+
+-- what a command or a status says, where none of its lines applies
+unfoldable pub saidRead : Profile → Direction → ℕ → ℕ → List ℕ → SaidReading
+saidRead profile dir zone command body =
+    ruled (judgeLines profile dir zone command body) sayings.Refused (sayings.Said (said profile dir zone command body))
+
+abbrev pub isDenialMessage : Message → Bool
+isDenialMessage (message.Command s) = false
+isDenialMessage (message.Status s) = false
+isDenialMessage (message.Denied d) = true
+
+abbrev pub isDenied : FrameReading → Bool
+isDenied (frame.Message m) = isDenialMessage m
+isDenied (frame.Refused n) = false
+isDenied frame.NotOneFrame = false

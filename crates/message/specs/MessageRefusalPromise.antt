@@ -1,0 +1,37 @@
+-- Promise: a write that is refused leaves the lent bytes as they were and counts none; "A refusal returns its number and zero
+-- for every other field": each answer's number, 0 where it is accepted, and its other values.
+use mathlib.Core.Path.{_≡_}
+use mathlib.Core.List.{List}
+use Prim.Native.Nat.{ℕ}
+use Rattle.fields.specs.Numbers.{writtenNumber, writtenCount}
+use Rattle.frame.specs.declared.direction.Direction.{Direction}
+use Rattle.frame.specs.declared.direction.Direction.the-variants.{Command, Answer}
+use Rattle.row.specs.Profile.{profileOf}
+use Rattle.row.specs.declared.profile.Profile.{Profile}
+use Rattle.message.specs.Message.{readOf, frameRead}
+use Rattle.message.specs.Numbers.{profileNumber, readingNumber, readingPaper, frameNumber, framePaper, zeros}
+use Rattle.message.specs.Write.{messageAnswered, messageLeft, fieldsAnswered, fieldsLeft}
+use Rattle.message.specs.declared.read.Message.{Message}
+use Rattle.message.specs.declared.read.Reading.the-variants as reading
+
+abbrev pub codeOn : Direction → ℕ → ℕ
+codeOn Command ac = 0
+codeOn Answer ac = ac
+
+pub record RefusalPromise : Type 0 where
+  -- 12 for any letter but A and S
+  pub letter : (l : ℕ) → (l ≡ 0x41 → ⊥) → (l ≡ 0x53 → ⊥) → profileNumber (profileOf l) ≡ 12
+  pub named : (profileNumber (profileOf 0x41) ≡ 0) × (profileNumber (profileOf 0x53) ≡ 0)
+  -- a message that is read has the number 0, and for its fields those that it was read from; a command has no answer code
+  pub paper : (profile : Profile) (dir : Direction) (zone command ac : ℕ) (body : List ℕ) (m : Message) → readOf profile dir zone command ac body ≡ reading.Message m
+      → (readingNumber (readOf profile dir zone command ac body) ≡ 0)
+      × (readingPaper profile (readOf profile dir zone command ac body) body ≡ record { zone = zone; command = command; answer = codeOn dir ac; body = body })
+  pub zero : (profile : Profile) (dir : Direction) (zone command ac : ℕ) (body : List ℕ) → (readingNumber (readOf profile dir zone command ac body) ≡ 0 → ⊥)
+      → readingPaper profile (readOf profile dir zone command ac body) body ≡ zeros
+  pub frame-zero : (profile : Profile) (dir : Direction) (bytes body : List ℕ) → (frameNumber (frameRead profile dir bytes) ≡ 0 → ⊥)
+      → framePaper profile (frameRead profile dir bytes) body ≡ zeros
+  pub message-kept : (profile : Profile) (buf : List ℕ) (at : ℕ) (m : Message) (body : List ℕ) → (writtenNumber (messageAnswered profile buf at m body) ≡ 0 → ⊥)
+      → (messageLeft profile buf at m body ≡ buf) × (writtenCount (messageAnswered profile buf at m body) ≡ 0)
+  pub fields-kept : (profile : Profile) (dir : Direction) (buf : List ℕ) (at zone command ac : ℕ) (body : List ℕ)
+      → (writtenNumber (fieldsAnswered profile dir buf at zone command ac body) ≡ 0 → ⊥)
+      → (fieldsLeft profile dir buf at zone command ac body ≡ buf) × (writtenCount (fieldsAnswered profile dir buf at zone command ac body) ≡ 0)

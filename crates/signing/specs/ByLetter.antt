@@ -1,0 +1,61 @@
+-- The same of a sheet that comes as the bytes of its sheet file, by the profile's letter: "Order: 12, then 11, before all others",
+-- then the file's refusals.
+use Prim.Native.Nat.{ℕ}
+use mathlib.Core.List.{List, [], _∷_}
+use Rattle.frame.specs.Refusal.{ruled}
+use Rattle.row.specs.declared.profile.Profile.{Profile}
+use Rattle.row.specs.declared.profile.Named.{Named}
+use Rattle.row.specs.declared.profile.Named.the-variants as named
+use Rattle.sheetfile.specs.File.{records, linesIn, fileVerdict}
+use Rattle.tracker.specs.Tracker.{fresh, keptIn}
+use Rattle.tracker.specs.Feed.{fedAll}
+use Rattle.signing.specs.Sign.{allHold, signedBy}
+use Rattle.signing.specs.Capture.{broughtBy, longCapture}
+use Rattle.tracker.specs.declared.tracker.Kept.{Kept}
+use Rattle.tracker.specs.declared.tracker.Kept.the-variants as kept
+use Rattle.signing.specs.declared.sign.Signed.{Signed}
+use Rattle.signing.specs.declared.sign.Signed.the-variants as signed
+use Rattle.signing.specs.declared.by_letter.CaptureCell.{CaptureCell}
+use Rattle.signing.specs.declared.by_letter.CaptureCell.the-variants as cell
+
+abbrev pub fileSigned : Profile → List ℕ → List ℕ → Signed
+fileSigned profile file capture =
+    ruled (longCapture capture ∷ []) (λ n. signed.Refused n 0)
+    (signedBy (fileVerdict profile file) (allHold (fedAll (fresh profile) (broughtBy capture)) (linesIn (records file))))
+
+abbrev pub fileSignedBy : Named → List ℕ → List ℕ → Signed
+fileSignedBy (named.Profile profile) file capture = fileSigned profile file capture
+fileSignedBy (named.Refused n) file capture = signed.Refused n 0
+
+-- what a tracker made new knows of a row and zone once a capture was fed to it
+abbrev pub shown : Kept → CaptureCell
+shown (kept.Value b) = cell.Value b
+shown kept.Unknown = cell.Unknown
+shown kept.NoCell = cell.NoCell
+
+abbrev pub captureCell : Profile → List ℕ → ℕ → ℕ → CaptureCell
+captureCell profile capture zone command =
+    ruled (longCapture capture ∷ []) cell.Refused (shown (keptIn (fedAll (fresh profile) (broughtBy capture)) zone command))
+
+abbrev pub captureCellBy : Named → List ℕ → ℕ → ℕ → CaptureCell
+captureCellBy (named.Profile profile) capture zone command = captureCell profile capture zone command
+captureCellBy (named.Refused n) capture zone command = cell.Refused n
+
+-- its number; 1 for a byte, 0 for unknown or refused and 2 for no cell; and its byte
+abbrev pub captureCellNumber : CaptureCell → ℕ
+captureCellNumber (cell.Value b) = 0
+captureCellNumber cell.Unknown = 0
+captureCellNumber cell.NoCell = 0
+captureCellNumber (cell.Refused n) = n
+
+abbrev pub captureCellState : CaptureCell → ℕ
+captureCellState (cell.Value b) = 1
+captureCellState cell.Unknown = 0
+captureCellState cell.NoCell = 2
+captureCellState (cell.Refused n) = 0
+
+abbrev pub captureCellByte : CaptureCell → ℕ
+captureCellByte (cell.Value b) = b
+captureCellByte cell.Unknown = 0
+captureCellByte cell.NoCell = 0
+captureCellByte (cell.Refused n) = 0

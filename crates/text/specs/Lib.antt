@@ -1,7 +1,0 @@
--- What must be believed: text in a lent buffer, the listing in pieces, and what is promised of them. `Computed` need not be believed.
-pub mod Text
-pub mod Pieces
-pub mod Numbers
-pub mod PiecesPromise
-pub mod RefusalPromise
-pub mod Computed

@@ -1,5 +1,0 @@
-// Text for people: numbers and the listing of a capture, written into a lent buffer.
-mod event;
-pub mod listing;
-pub mod number;
-mod put;

@@ -1,0 +1,79 @@
+use crate::cell::CELLS;
+use crate::cell::Cell;
+use crate::cell::cell_of;
+use row::profile::Profile;
+use row::table::Found;
+use row::table::Row;
+use row::table::find_row;
+use sheet::line::is_sheet_value;
+ghost use mathlib.Core.Path.{_≡_};
+ghost use Rattle.tracker.specs.Tracker.{fresh, keptIn, isSpoilt, spoiltIn};
+
+// The state of a cell that is known; any other is unknown.
+pub const KNOWN: u8 = 1;
+
+// What one unit has answered since its tracker was made new.
+pub struct Tracker {
+    pub profile: Profile,
+    // a state and a byte for each cell
+    pub states: [u8; CELLS],
+    pub values: [u8; CELLS],
+}
+
+// What a tracker keeps of a row and zone.
+pub enum Kept {
+    Value(u8),
+    Unknown,
+    NoCell,
+}
+
+// A tracker that knows nothing.
+pub fn new_tracker(profile: Profile) -> Tracker
+    ensures { λ r. ⌜ r ≡ fresh profile ⌝ }
+{
+    Tracker {
+        profile: profile,
+        states: [0; CELLS],
+        values: [0; CELLS],
+    }
+}
+
+// The byte that is known of a row and zone.
+pub fn kept_in(tracker: Tracker, zone: u8, command: u8) -> Kept
+    ensures { λ r. ⌜ r ≡ keptIn tracker zone command ⌝ }
+{
+    let profile = tracker.profile;
+    let cell = cell_of(profile, zone, command);
+    let Cell::At(at) = cell else {
+        return Kept::NoCell;
+    };
+    let states = tracker.states;
+    if states[at] != KNOWN {
+        return Kept::Unknown;
+    }
+    let values = tracker.values;
+    let value = values[at];
+    if is_spoilt(profile, command, value) {
+        return Kept::Unknown;
+    }
+    Kept::Value(value)
+}
+
+// Whether a kept byte is no legal value of its sheet row: then it was spoilt.
+fn is_spoilt(profile: Profile, command: u8, value: u8) -> bool
+    ensures { λ r. ⌜ r ≡ spoiltIn profile command value ⌝ }
+{
+    match find_row(profile, command) {
+        Found::Row(row) => is_spoilt_in(row, value),
+        Found::NoRow => false,
+    }
+}
+
+fn is_spoilt_in(row: Row, value: u8) -> bool
+    ensures { λ r. ⌜ r ≡ isSpoilt row value ⌝ }
+{
+    if !row.sheet {
+        return false;
+    }
+    !is_sheet_value(row, value)
+}
