@@ -31,13 +31,13 @@ pub(crate) fn operate(operation: usize, space: &[u8], ends: [usize; 14], count: 
         let place = number(space, ends, 1) as usize;
         let length = number(space, ends, 2) as usize;
         let bytes = argument(space, ends, 3);
-        say_bytes(fields::fields::bytes_at(bytes, place, length));
+        say_bytes(lent::part::bytes_at(bytes, place, length));
         return;
     }
     if operation == names::LAST {
         let length = number(space, ends, 1) as usize;
         let bytes = argument(space, ends, 2);
-        say_bytes(fields::fields::last_bytes(bytes, length));
+        say_bytes(lent::part::last_bytes(bytes, length));
         return;
     }
     match frame::direction::direction_of(byte(space, ends, 1)) {

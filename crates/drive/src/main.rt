@@ -29,7 +29,7 @@ fn read_lines(line: &mut [u8]) {
         if got == 0 {
             break;
         }
-        count = take_bytes(fields::fields::bytes_at(&input, 0, got), line, count);
+        count = take_bytes(lent::part::bytes_at(&input, 0, got), line, count);
     }
     if count > 0 {
         operate(line, count);

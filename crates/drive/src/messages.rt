@@ -8,8 +8,8 @@ use crate::out::say_letter;
 use crate::out::say_number;
 use crate::out::say_refused;
 use crate::spaces;
-use fields::raw::Written;
 use frame::direction::Direction;
+use lent::written::Written;
 use message::content::Content;
 use message::read::Denial;
 use message::read::FrameReading;
@@ -180,7 +180,7 @@ pub(crate) fn say_content(content: Content) {
 // The word at a place of the words that a content is said by.
 fn say_word(place: usize, length: usize) {
     let words = b"request up down on off toggle number ";
-    say(fields::fields::bytes_at(words, place, length))
+    say(lent::part::bytes_at(words, place, length))
 }
 
 // A number that may be below zero.

@@ -71,7 +71,7 @@ fn gather(bytes: &[u8], gathered: &mut [u8]) {
     for i in 0..bytes.len() {
         at = put_pair(gathered, at, bytes[i]);
     }
-    say(fields::fields::bytes_at(gathered, 0, at));
+    say(lent::part::bytes_at(gathered, 0, at));
 }
 
 fn put_pair(gathered: &mut [u8], at: usize, byte: u8) -> usize {
@@ -86,7 +86,7 @@ fn with_room(gathered: &[u8], at: usize) -> usize {
             return at;
         }
     }
-    say(fields::fields::bytes_at(gathered, 0, at));
+    say(lent::part::bytes_at(gathered, 0, at));
     0
 }
 

@@ -41,7 +41,7 @@ fn listing(input: &[u8], buf: &mut [u8]) {
         if count == 0 {
             return;
         }
-        say(fields::fields::bytes_at(buf, 0, count));
+        say(lent::part::bytes_at(buf, 0, count));
         place = behind;
     }
 }

@@ -4,9 +4,9 @@ use crate::messages::say_written;
 use crate::messages::signed;
 use crate::out::say_letter;
 use crate::sheets;
-use fields::raw::Written;
 use fields::raw::write_raw;
 use frame::direction::Direction;
+use lent::written::Written;
 use message::read::Denial;
 use message::read::Message;
 use message::read::Said;
@@ -51,7 +51,7 @@ fn written(
     }
     let skip = room.len() - length;
     let written = write(operation, space, ends, &mut room[skip..], spot);
-    say_written(written, fields::fields::last_bytes(room, length))
+    say_written(written, lent::part::last_bytes(room, length))
 }
 
 // The same of a sheet file.
@@ -68,7 +68,7 @@ fn sheet_written(
     }
     let skip = room.len() - length;
     let written = write_sheet(operation, space, ends, &mut room[skip..], spot);
-    sheets::say_written(written, fields::fields::last_bytes(room, length))
+    sheets::say_written(written, lent::part::last_bytes(room, length))
 }
 
 // Which argument the length is.

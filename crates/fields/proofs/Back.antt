@@ -12,8 +12,12 @@ use lib.Seq.{drop-at, getD-take, getD-drop, length-take-le}
 use Rattle.frame.specs.Frame.{opens, ends, dataLimit, header, frameLength, frameOf, dl}
 use Rattle.frame.specs.Reader.{takenAfter, answers, takenBy}
 use Rattle.frame.specs.Capture.{kindNumber, event, eventsFrom, firstOf}
-use Rattle.fields.specs.Fields.{isFrame, fieldsIn, dataIn, bytesAt, lastOf}
-use Rattle.fields.specs.Raw.{placed, rawAnswered, rawLeft}
+use Rattle.fields.specs.Fields.{isFrame, fieldsIn, dataIn}
+use Rattle.lent.specs.Placed.{bytesAt, lastBytes}
+use Rattle.lent.specs.Placed.{placed}
+use Rattle.fields.specs.Raw.{rawRules}
+use Rattle.lent.specs.Written.{writeAnswered, writeLeft}
+use Rattle.lent.proofs.Writes.{write-promise}
 use Rattle.fields.specs.FramePromise.{Brings, Again, FramePromise}
 use Rattle.frame.specs.Computed.{stretchAt}
 use Rattle.frame.specs.declared.direction.Direction.{Direction}
@@ -24,13 +28,14 @@ use Rattle.frame.specs.declared.capture.Kind.{Kind}
 use Rattle.frame.specs.declared.capture.Kind.the-variants as kind
 use Rattle.frame.specs.declared.capture.Event.{Event}
 use Rattle.frame.specs.declared.capture.Next.the-variants as next
-use Rattle.fields.specs.declared.raw.Written.the-variants as written
+use Rattle.lent.specs.declared.written.Written.the-variants as written
 use Rattle.frame.proofs.Cases.{cases}
 use Rattle.frame.proofs.Header.{header-least, frame-length}
 use Rattle.frame.proofs.Taken.{fills, taken-outside, taken-end}
 use Rattle.frame.proofs.Events.{eventsOn, events-open, events-fill, events-frame, events-here, events-end}
 use Rattle.fields.proofs.Whole.{Whole, is-whole, whole-is}
-use Rattle.fields.proofs.Placed.{raw-left, placed-length, placed-there}
+use Rattle.fields.proofs.Raws.{raw-left}
+use Rattle.lent.proofs.Placed.{placed-length, placed-there}
 use Rattle.fields.proofs.Again.{frame-is, frame-fields, frame-data, data-length, frame-again}
 use Rattle.fields.proofs.Live.{live-frame}
 
@@ -115,26 +120,6 @@ module _ (dir : Direction) (zone command code : ℕ) (body : List ℕ) where
     load = rw (frame-is dir zone command code body, frame-data dir zone command code body);
   }
 
--- a write that was not refused had no data over the limit, and room
-accepted : (dir : Direction) (buf : List ℕ) (at : ℕ) (body : List ℕ) (n : ℕ) → rawAnswered dir buf at body ≡ written.Bytes n
-    → (length body ≤ dataLimit) × (at + frameLength dir (length body) ≤ length buf) × (n ≡ frameLength dir (length body))
-unfolding rawAnswered
-accepted dir buf at body n e = go (ltb dataLimit (length body)) (ltb (length buf) at) (ltb (length buf - at) (frameLength dir (length body))) refl refl refl e
-  where
-    Goal : Type 0
-    Goal = (length body ≤ dataLimit) × (at + frameLength dir (length body) ≤ length buf) × (n ≡ frameLength dir (length body))
-
-    refused : (k : ℕ) → written.Refused k ≡ written.Bytes n → Goal
-    refused k f = let z : _≡_ {A = ℕ} 0 1 = cc in absurd (omega arith)
-
-    go : (t u v : Bool) → ltb dataLimit (length body) ≡ t → ltb (length buf) at ≡ u → ltb (length buf - at) (frameLength dir (length body)) ≡ v
-        → cond t (written.Refused 3) (cond (u || v) (written.Refused 9) (written.Bytes (frameLength dir (length body)))) ≡ written.Bytes n → Goal
-    go true u v f g h k = refused 3 k
-    go false true v f g h k = refused 9 k
-    go false false true f g h k = refused 9 k
-    go false false false f g h k =
-        (ltb-false _ _ f, omega (arith, ltb-false (length buf) at g, ltb-false (length buf - at) (frameLength dir (length body)) h), cc)
-
 -- a frame that stands at a place of a buffer is the event there, and its bytes are the frame
 module _ (dir : Direction) (buf : List ℕ) (at zone command code : ℕ) (body : List ℕ)
     (room : at + length (frameOf dir zone command code body) ≤ length buf) where
@@ -154,21 +139,22 @@ module _ (dir : Direction) (buf : List ℕ) (at zone command code : ℕ) (body :
   placed-bytes =
       rw (placed-length buf at frame room, le-leb (at + length frame) (length buf) room) (placed-there buf at frame room)
 
-module _ (dir : Direction) (buf : List ℕ) (at zone command code : ℕ) (body : List ℕ) (n : ℕ) (e : rawAnswered dir buf at body ≡ written.Bytes n) where
-  abbrev left : List ℕ
-  left = rawLeft dir buf at zone command code body
-
+module _ (dir : Direction) (buf : List ℕ) (at zone command code : ℕ) (body : List ℕ) (n : ℕ)
+    (e : writeAnswered (rawRules body) buf at (frameOf dir zone command code body) ≡ written.Bytes n) where
   abbrev sent : List ℕ
   sent = frameOf dir zone command code body
 
+  abbrev left : List ℕ
+  left = writeLeft (rawRules body) buf at sent
+
   fits : at + length sent ≤ length buf
-  fits = rw (frame-length dir zone command code body) (accepted dir buf at body n e .1)
+  fits = let w = write-promise (rawRules body) buf at sent .there n e in rw (← w .0) (w .1)
 
   is-placed : left ≡ placed buf at sent
-  is-placed = let a = accepted dir buf at body n e in raw-left dir buf at zone command code body (a .0) (a .1)
+  is-placed = write-promise (rawRules body) buf at sent .there n e .2
 
   long-as : n ≡ length sent
-  long-as = accepted dir buf at body n e .2 ∙ sym (frame-length dir zone command code body)
+  long-as = write-promise (rawRules body) buf at sent .there n e .0
 
   raw-found : firstOf (eventsFrom dir left at) ≡ next.Event (event at n kind.Frame)
   raw-found = rw (is-placed, long-as) (placed-found dir buf at zone command code body fits)
@@ -223,7 +209,7 @@ module _ (dir : Direction) (capture : List ℕ) (at n : ℕ) (within : at < leng
       framed (cc)
 
 written-again : (dir : Direction) (bytes : List ℕ) → isFrame dir bytes ≡ true → (buf : List ℕ) (at : ℕ) → dl dir bytes ≤ dataLimit → at + length bytes ≤ length buf
-    → rawLeft dir buf at (fieldsIn dir bytes .zone) (fieldsIn dir bytes .command) (fieldsIn dir bytes .answer) (dataIn dir bytes) ≡ placed buf at bytes
+    → writeLeft (rawRules (dataIn dir bytes)) buf at (frameOf dir (fieldsIn dir bytes .zone) (fieldsIn dir bytes .command) (fieldsIn dir bytes .answer) (dataIn dir bytes)) ≡ placed buf at bytes
 written-again dir bytes e buf at small room =
     let f = fieldsIn dir bytes in
     let same = frame-again dir bytes e in
@@ -260,5 +246,5 @@ frame-promise = record {
   found = raw-found;
   placed = raw-brings;
   captured = captured;
-  live = λ dir stream b n e. again dir (lastOf (stream ++ b ∷ []) n) (live-frame dir stream b n e);
+  live = λ dir stream b n e. again dir (lastBytes (stream ++ b ∷ []) n) (live-frame dir stream b n e);
 }

@@ -5,17 +5,18 @@ use Prim.Native.Nat.{ℕ}
 use lib.ListN.{replicate}
 use Rattle.frame.specs.Frame.{frameOf}
 use Rattle.frame.specs.Reader.{answerTo, takenAfter, answers, takenBy}
-use Rattle.frame.specs.KeptReader.{fedAt, answersOf, readerAfter, fresh}
+use Rattle.frame.specs.KeptReader.{fedAt, answersOf, readerAfter, freshReader}
 use Rattle.frame.specs.CutPromise.{answersInParts, fedInParts}
 use Rattle.frame.specs.Capture.{settled, labels, count, event, eventsTold, eventsFrom, countedOf}
 use Rattle.fields.specs.Fields.{isFrame, fieldsOf, dataOf}
-use Rattle.fields.specs.Raw.{rawAnswered, rawLeft}
+use Rattle.fields.specs.Raw.{rawRules}
+use Rattle.lent.specs.Written.{lacksRoom, writeAnswered, writeLeft}
 use Rattle.frame.specs.declared.direction.Direction.the-variants.{Command, Answer}
 use Rattle.frame.specs.declared.reader.ByteAnswer.the-variants as answer
 use Rattle.frame.specs.declared.capture.Kind.the-variants.{Frame, Broken, Noise, Pending}
 use Rattle.frame.specs.declared.capture.Counted.the-variants as counted
 use Rattle.fields.specs.declared.fields.Brought.the-variants as brought
-use Rattle.fields.specs.declared.raw.Written.the-variants as written
+use Rattle.lent.specs.declared.written.Written.the-variants as written
 
 -- the capture of document 01's listing
 abbrev listed : List ℕ
@@ -45,7 +46,7 @@ unfolding eventsFrom eventsTold answers takenBy answerTo takenAfter
 all-21 = refl
 
 -- the answers, byte by byte, of the reader that the code keeps
-pub fed-by-byte : answersOf (fresh Command) (0x0D ∷ 0x21 ∷ 0x01 ∷ 0x0D ∷ 0x00 ∷ 0x21 ∷ 0x01 ∷ 0x0E ∷ 0x00 ∷ 0x0D ∷ [])
+pub fed-by-byte : answersOf (freshReader Command) (0x0D ∷ 0x21 ∷ 0x01 ∷ 0x0D ∷ 0x00 ∷ 0x21 ∷ 0x01 ∷ 0x0E ∷ 0x00 ∷ 0x0D ∷ [])
     ≡ answer.Noise ∷ answer.Waiting ∷ answer.Waiting ∷ answer.Waiting ∷ answer.Waiting ∷ answer.Broken 4
     ∷ answer.Waiting ∷ answer.Waiting ∷ answer.Waiting ∷ answer.Frame 5 ∷ []
 unfolding answersOf fedAt
@@ -55,31 +56,31 @@ fed-by-byte = refl
 abbrev three : List (List ℕ)
 three = (0x0D ∷ 0x21 ∷ []) ∷ (0x01 ∷ 0x0D ∷ 0x00 ∷ 0x21 ∷ []) ∷ (0x01 ∷ 0x0E ∷ 0x00 ∷ 0x0D ∷ []) ∷ []
 
-pub fed-in-three : answersInParts (fresh Command) three
+pub fed-in-three : answersInParts (freshReader Command) three
     ≡ answer.Noise ∷ answer.Waiting ∷ answer.Waiting ∷ answer.Waiting ∷ answer.Waiting ∷ answer.Broken 4
     ∷ answer.Waiting ∷ answer.Waiting ∷ answer.Waiting ∷ answer.Frame 5 ∷ []
 unfolding answersOf readerAfter fedAt
 fed-in-three = refl
 
-pub counted-in-three : fedInParts (fresh Command) three ≡ record { reader = fresh Command; frame = 5; broken = 4; noise = 1 }
+pub counted-in-three : fedInParts (freshReader Command) three ≡ record { reader = freshReader Command; frame = 5; broken = 4; noise = 1 }
 unfolding answersOf readerAfter fedAt count settled
 counted-in-three = refl
 
 -- a raw answer with two data bytes, at place 1 of nine bytes: written, and found there
-pub raw-written : rawAnswered Answer (replicate 9 7) 1 (0x06 ∷ 0x01 ∷ []) ≡ written.Bytes 8
-unfolding rawAnswered
+pub raw-written : writeAnswered (rawRules (0x06 ∷ 0x01 ∷ [])) (replicate 9 7) 1 (frameOf Answer 0x01 0x0F 0x00 (0x06 ∷ 0x01 ∷ [])) ≡ written.Bytes 8
+unfolding writeAnswered lacksRoom frameOf
 raw-written = refl
 
-pub raw-bytes : rawLeft Answer (replicate 9 7) 1 0x01 0x0F 0x00 (0x06 ∷ 0x01 ∷ []) ≡ 7 ∷ 0x21 ∷ 0x01 ∷ 0x0F ∷ 0x00 ∷ 0x02 ∷ 0x06 ∷ 0x01 ∷ 0x0D ∷ []
-unfolding rawLeft frameOf
+pub raw-bytes : writeLeft (rawRules (0x06 ∷ 0x01 ∷ [])) (replicate 9 7) 1 (frameOf Answer 0x01 0x0F 0x00 (0x06 ∷ 0x01 ∷ [])) ≡ 7 ∷ 0x21 ∷ 0x01 ∷ 0x0F ∷ 0x00 ∷ 0x02 ∷ 0x06 ∷ 0x01 ∷ 0x0D ∷ []
+unfolding writeLeft lacksRoom frameOf
 raw-bytes = refl
 
-pub raw-no-room : rawAnswered Answer (replicate 9 7) 2 (0x06 ∷ 0x01 ∷ []) ≡ written.Refused 9
-unfolding rawAnswered
+pub raw-no-room : writeAnswered (rawRules (0x06 ∷ 0x01 ∷ [])) (replicate 9 7) 2 (frameOf Answer 0x01 0x0F 0x00 (0x06 ∷ 0x01 ∷ [])) ≡ written.Refused 9
+unfolding writeAnswered lacksRoom frameOf
 raw-no-room = refl
 
-pub raw-too-long : rawAnswered Answer [] 1 (replicate 256 0) ≡ written.Refused 3
-unfolding rawAnswered
+pub raw-too-long : writeAnswered (rawRules (replicate 256 0)) [] 1 (frameOf Answer 0x01 0x0F 0x00 (replicate 256 0)) ≡ written.Refused 3
+unfolding writeAnswered lacksRoom frameOf
 raw-too-long = refl
 
 pub fields-found : fieldsOf Answer (0x21 ∷ 0x01 ∷ 0x0F ∷ 0x00 ∷ 0x02 ∷ 0x06 ∷ 0x01 ∷ 0x0D ∷ []) ≡ brought.Frame (record { zone = 1; command = 0x0F; answer = 0 })

@@ -11,7 +11,8 @@ use lib.Seq.{drop-at, getD-at}
 use Rattle.frame.specs.Frame.{header, opens, ends, dl}
 use Rattle.frame.specs.Reader.{answerTo, takenAfter, takenBy}
 use Rattle.frame.specs.Meaning.{Means}
-use Rattle.fields.specs.Fields.{isFrame, lastOf}
+use Rattle.fields.specs.Fields.{isFrame}
+use Rattle.lent.specs.Placed.{lastBytes}
 use Rattle.frame.specs.declared.direction.Direction.{Direction}
 use Rattle.frame.specs.declared.reader.ByteAnswer.{ByteAnswer}
 use Rattle.frame.specs.declared.reader.ByteAnswer.the-variants as answer
@@ -76,8 +77,8 @@ whole-taken dir taken b some first full last =
 
 -- where the answer is frame, the last bytes fed are one whole frame
 pub live-frame : (dir : Direction) (stream : List ℕ) (b n : ℕ) → answerTo dir (takenBy dir [] stream) b ≡ answer.Frame n
-    → isFrame dir (lastOf (stream ++ b ∷ []) n) ≡ true
-unfolding lastOf
+    → isFrame dir (lastBytes (stream ++ b ∷ []) n) ≡ true
+unfolding lastBytes
 live-frame dir stream b n e =
     let taken = takenBy dir [] stream in
     let h = held-by dir [] [] stream (held-none []) in

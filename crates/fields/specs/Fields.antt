@@ -40,12 +40,3 @@ fieldsOf dir bytes = cond (isFrame dir bytes) (brought.Frame (fieldsIn dir bytes
 
 abbrev pub dataOf : Direction → List ℕ → List ℕ
 dataOf dir bytes = cond (isFrame dir bytes) (dataIn dir bytes) []
-
--- "In a capture .. every byte belongs to exactly one of frame, broken, noise, pending": the bytes of such a stretch, by its place and
--- length; none where they do not all lie in the capture
-unfoldable pub bytesAt : List ℕ → ℕ → ℕ → List ℕ
-bytesAt capture at n = cond (leb (at + n) (length capture)) (take n (drop at capture)) []
-
--- "at the end place, 0D completes the frame": its bytes are the last of those kept; none where fewer are kept
-unfoldable pub lastOf : List ℕ → ℕ → List ℕ
-lastOf kept n = cond (leb n (length kept)) (drop (length kept - n) kept) []

@@ -1,6 +1,4 @@
 -- What must be believed: what a frame brings, writing; then the promises.
 pub mod Fields
 pub mod Raw
-pub mod Numbers
 pub mod FramePromise
-pub mod FrameRefusalPromise

@@ -4,7 +4,7 @@ ghost use mathlib.Core.Path.{_≡_};
 ghost use Prim.Native.Nat.{_≤_};
 ghost use lib.ListN.{length};
 ghost use Rattle.frame.specs.Frame.{header};
-ghost use Rattle.fields.specs.Fields.{isFrame, answerIn, fieldsOf, dataOf, bytesAt, lastOf};
+ghost use Rattle.fields.specs.Fields.{isFrame, answerIn, fieldsOf, dataOf};
 
 // What a frame brings beside its data. A command has no answer code: 0 stands for it.
 pub struct Fields {
@@ -43,30 +43,6 @@ pub fn frame_data(direction: Direction, bytes: &[u8]) -> &[u8]
     let header = Reader::header(direction) as usize;
     let end = bytes.len() - 1;
     &bytes[header..end]
-}
-
-// The bytes of an event, by its place and length: a part of what is lent. Where they are not all there, none.
-pub fn bytes_at(capture: &[u8], at: usize, length: usize) -> &[u8]
-    ensures { λ r. ⌜ now r ≡ bytesAt (now (capture .entry)) at length ⌝ }
-{
-    if at > capture.len() {
-        return &capture[..0];
-    }
-    if length > capture.len() - at {
-        return &capture[..0];
-    }
-    &capture[at..at + length]
-}
-
-// The last bytes of those that the host kept of a live port: after the answer frame, the frame. Where
-// fewer are kept, none.
-pub fn last_bytes(kept: &[u8], count: usize) -> &[u8]
-    ensures { λ r. ⌜ now r ≡ lastOf (now (kept .entry)) count ⌝ }
-{
-    if count > kept.len() {
-        return &kept[..0];
-    }
-    &kept[kept.len() - count..]
 }
 
 // Whether the bytes are one whole frame: 21 first, as many as Dl says, 0D last.

@@ -1,18 +1,15 @@
 use frame::direction::Direction;
 use frame::reader::Reader;
+use lent::written::Written;
+use lent::written::lacks_room;
+use lent::written::write_bytes;
 ghost use mathlib.Core.Path.{_≡_};
 ghost use mathlib.Core.List.{_++_};
 ghost use Prim.Native.Nat.{_+_, _≤_};
 ghost use lib.ListN.{length, drop};
-ghost use lib.Seq.{paste};
 ghost use Rattle.frame.specs.Frame.{dataLimit, header, headerOf, frameLength, frameOf};
-ghost use Rattle.fields.specs.Raw.{rawAnswered, rawLeft};
-
-// What a write has done: how many bytes it wrote, or the number of its refusal.
-pub enum Written {
-    Bytes(usize),
-    Refused(u8),
-}
+ghost use Rattle.lent.specs.Written.{writeAnswered, writeLeft};
+ghost use Rattle.fields.specs.Raw.{rawRules};
 
 // Writes a frame of any zone, command and answer code into the rest of the buffer from a place: 3
 // for data over 255, then 9 where there is no room, and then the buffer is as it was. A command has
@@ -26,17 +23,15 @@ pub fn write_raw(
     answer: u8,
     body: &[u8],
 ) -> Written
-    ensures { λ r. ⌜ (r ≡ rawAnswered direction (now (buf .entry)) at (now (body .entry))) × (now (buf .exit) ≡ rawLeft direction (now (buf .entry)) at zone command answer (now (body .entry))) ⌝ }
+    ensures answers { λ r. ⌜ r ≡ writeAnswered (rawRules (now (body .entry))) (now (buf .entry)) at (frameOf direction zone command answer (now (body .entry))) ⌝ }
+    ensures leaves { λ _. ⌜ now (buf .exit) ≡ writeLeft (rawRules (now (body .entry))) (now (buf .entry)) at (frameOf direction zone command answer (now (body .entry))) ⌝ }
 {
     let count = body.len();
     if count > Reader::DATA_LIMIT as usize {
         return Written::Refused(3);
     }
-    if at > buf.len() {
-        return Written::Refused(9);
-    }
     let length = Reader::header(direction) as usize + count + 1;
-    if buf.len() - at < length {
+    if lacks_room(buf.len(), at, length) {
         return Written::Refused(9);
     }
     put_frame(&mut buf[at..], direction, zone, command, answer, body);
@@ -50,7 +45,7 @@ fn put_frame(tail: &mut [u8], direction: Direction, zone: u8, command: u8, answe
 {
     put_header(tail, direction, zone, command, answer, body.len() as u8);
     let header = Reader::header(direction) as usize;
-    copy_at(tail, header, body);
+    write_bytes(tail, header, body);
     tail[header + body.len()] = Reader::ENDS;
 }
 
@@ -70,17 +65,5 @@ fn put_header(tail: &mut [u8], direction: Direction, zone: u8, command: u8, answ
             tail[3] = answer;
             tail[4] = count;
         }
-    }
-}
-
-// A copy to a place.
-fn copy_at(to: &mut [u8], at: usize, from: &[u8])
-    requires { ⌜ at + length (now from) ≤ length (now to) ⌝ }
-    ensures { λ _. ⌜ now (to .exit) ≡ paste (now (to .entry)) at (now (from .entry)) (length (now (from .entry))) ⌝ }
-{
-    let mut i = 0;
-    while i < from.len() {
-        to[at + i] = from[i];
-        i += 1;
     }
 }

@@ -7,7 +7,7 @@ use lib.Dec.{eqb}
 use lib.ListN.{length, replicate}
 use mathlib.Core.Bool.{cond}
 use Rattle.frame.specs.Reader.{answers, takenBy}
-use Rattle.frame.specs.KeptReader.{fedOf, fresh, answersOf, readerAfter}
+use Rattle.frame.specs.KeptReader.{fedOf, freshReader, answersOf, readerAfter}
 use Rattle.frame.specs.Capture.{kindNumber, settles, settled, labels, count, partOf}
 use Rattle.frame.specs.CutPromise.{joined, answersInParts, fedInParts, addedUp, CutPromise}
 use Rattle.frame.specs.declared.direction.Direction.{Direction}
@@ -58,7 +58,7 @@ none-pending (answer.Broken n ∷ rest) = rw (count-append Pending (replicate n 
 
 -- the labels of a kind: those that the reader settled, and the pending ones
 labels-count : (k : Kind) (dir : Direction) (capture : List ℕ)
-    → count k (labels dir capture) ≡ count k (settled (answersOf (fresh dir) capture)) + cond (eqb (kindNumber k) 3) (readerAfter (fresh dir) capture .place) 0
+    → count k (labels dir capture) ≡ count k (settled (answersOf (freshReader dir) capture)) + cond (eqb (kindNumber k) 3) (readerAfter (freshReader dir) capture .place) 0
 unfolding labels
 labels-count k dir capture =
     count-append k (settled (answers dir [] capture)) (replicate (length (takenBy dir [] capture)) Pending)
@@ -71,5 +71,5 @@ cut-promise = record {
   frame = λ dir capture. sym (labels-count Frame dir capture ∙ add-zero _);
   broken = λ dir capture. sym (labels-count Broken dir capture ∙ add-zero _);
   noise = λ dir capture. sym (labels-count Noise dir capture ∙ add-zero _);
-  pending = λ dir capture. sym (labels-count Pending dir capture ∙ rw (none-pending (answersOf (fresh dir) capture)) (zero-add _));
+  pending = λ dir capture. sym (labels-count Pending dir capture ∙ rw (none-pending (answersOf (freshReader dir) capture)) (zero-add _));
 }

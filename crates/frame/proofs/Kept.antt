@@ -9,7 +9,7 @@ use lib.Dec.{eqb, ltb}
 use lib.ListN.{length, length-append}
 use Rattle.frame.specs.Frame.{header, opens, ends, dl}
 use Rattle.frame.specs.Reader.{answerTo, takenAfter, answers, takenBy}
-use Rattle.frame.specs.KeptReader.{kept, stood, fedAt, fedOf, answersOf, readerAfter}
+use Rattle.frame.specs.KeptReader.{readerOf, stood, fedAt, fedOf, answersOf, readerAfter}
 use Rattle.frame.specs.declared.direction.Direction.{Direction}
 use Rattle.frame.specs.declared.reader.ByteAnswer.{ByteAnswer}
 use Rattle.frame.specs.declared.reader.ByteAnswer.the-variants.{Waiting, Noise, Frame, Broken}
@@ -19,14 +19,14 @@ use Rattle.frame.proofs.Taken.{Stands, dl-none, dl-more, dl-now, taken-
 
 -- one byte: the same answer, and the reader kept of what is taken then
 unfoldable pub Follows : Direction → List ℕ → ℕ → Type 0
-Follows dir taken b = fedOf (kept dir taken) b ≡ record { reader = kept dir (takenAfter dir taken b); answer = answerTo dir taken b }
+Follows dir taken b = fedOf (readerOf dir taken) b ≡ record { reader = readerOf dir (takenAfter dir taken b); answer = answerTo dir taken b }
 
 module _ (dir : Direction) (taken : List ℕ) (b : ℕ) where
   inside : 0 < length taken → eqb (length taken) 0 ≡ false
   inside some = ne-eqb (length taken) 0 (omega arith)
 
   -- what is kept of one byte, or of none
-  opened : (t : Bool) → kept dir (cond t (b ∷ []) []) ≡ record { direction = dir; place = cond t 1 0; dl = 0 }
+  opened : (t : Bool) → readerOf dir (cond t (b ∷ []) []) ≡ record { direction = dir; place = cond t 1 0; dl = 0 }
   opened true = rw (dl-none dir (b ∷ []) (omega (arith, header-least dir)))
   opened false = rw (dl-none dir [] (omega (arith, header-least dir)))
 
@@ -39,7 +39,7 @@ module _ (dir : Direction) (taken : List ℕ) (b : ℕ) where
 
   -- inside: the place is filled
   follows-inside : 0 < length taken → length taken < header dir + dl dir taken → (count : ℕ) → dl dir (taken ++ b ∷ []) ≡ count
-      → fedOf (kept dir taken) b ≡ stood dir (length taken + 1) count Waiting → Follows dir taken b
+      → fedOf (readerOf dir taken) b ≡ stood dir (length taken + 1) count Waiting → Follows dir taken b
   unfolding Follows
   follows-inside some early count now e =
       let step = taken-inside dir taken b some early in
@@ -95,7 +95,7 @@ follows dir taken b s = go (eqb (length taken) 0) (ltb (length taken) (header di
 
 -- a stream: the same answers, and the reader kept of what is taken then
 pub follows-all : (dir : Direction) (taken bs : List ℕ) → Stands dir taken
-    → (answersOf (kept dir taken) bs ≡ answers dir taken bs) × (readerAfter (kept dir taken) bs ≡ kept dir (takenBy dir taken bs))
+    → (answersOf (readerOf dir taken) bs ≡ answers dir taken bs) × (readerAfter (readerOf dir taken) bs ≡ readerOf dir (takenBy dir taken bs))
 unfolding answersOf readerAfter answers takenBy Follows
 follows-all dir taken [] s = (refl, refl)
 follows-all dir taken (b ∷ bs) s =

@@ -1,5 +1,3 @@
-pub mod Ruled
-pub mod Rules
 pub mod Header
 pub mod Cases
 pub mod Labels
@@ -12,3 +10,4 @@ pub mod Totals
 pub mod Means
 pub mod Cut
 pub mod Tiled
+pub mod Refusals

@@ -5,7 +5,7 @@ use mathlib.Core.List.{List, [], _∷_, _++_}
 use lib.Dec.{eqb, ltb}
 use lib.ListN.{length, drop, replicate}
 use mathlib.Core.Bool.{cond}
-use Rattle.frame.specs.Refusal.{line, ruled}
+use Rattle.refusals.specs.Rule.{rule, ruled}
 use Rattle.frame.specs.Reader.{answers, takenBy}
 use Rattle.frame.specs.KeptReader.{answersOf, readerAfter}
 use Rattle.frame.specs.declared.direction.Direction.{Direction}
@@ -66,7 +66,7 @@ totalsOf dir capture = record {
 -- 11: "capture over 60,000 bytes"
 abbrev pub countedOf : Direction → List ℕ → Counted
 countedOf dir capture =
-    ruled (line 11 (ltb captureLimit (length capture)) ∷ []) counted.Refused (counted.Totals (totalsOf dir capture))
+    ruled (rule 11 (ltb captureLimit (length capture)) ∷ []) counted.Refused (counted.Totals (totalsOf dir capture))
 
 -- "Order: 12, then 11, before all others."
 abbrev pub countedBy : Named → List ℕ → Counted

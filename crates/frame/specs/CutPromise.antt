@@ -3,7 +3,7 @@
 use mathlib.Core.Path.{_≡_}
 use mathlib.Core.List.{List, [], _∷_, _++_}
 use Prim.Native.Nat.{ℕ, _+_}
-use Rattle.frame.specs.KeptReader.{fresh, answersOf}
+use Rattle.frame.specs.KeptReader.{freshReader, answersOf}
 use Rattle.frame.specs.Capture.{partOf, totalsOf}
 use Rattle.frame.specs.declared.direction.Direction.{Direction}
 use Rattle.frame.specs.declared.reader.ByteAnswer.{ByteAnswer}
@@ -33,7 +33,7 @@ fedInParts r (p ∷ ps) = addedUp (partOf r p) (fedInParts (partOf r p .reader) 
 pub record CutPromise : Type 0 where
   pub told : (r : Reader) (parts : List (List ℕ)) → answersInParts r parts ≡ answersOf r (joined parts)
   pub counted : (r : Reader) (parts : List (List ℕ)) → fedInParts r parts ≡ partOf r (joined parts)
-  pub frame : (dir : Direction) (capture : List ℕ) → partOf (fresh dir) capture .frame ≡ totalsOf dir capture .frame
-  pub broken : (dir : Direction) (capture : List ℕ) → partOf (fresh dir) capture .broken ≡ totalsOf dir capture .broken
-  pub noise : (dir : Direction) (capture : List ℕ) → partOf (fresh dir) capture .noise ≡ totalsOf dir capture .noise
-  pub pending : (dir : Direction) (capture : List ℕ) → partOf (fresh dir) capture .reader .place ≡ totalsOf dir capture .pending
+  pub frame : (dir : Direction) (capture : List ℕ) → partOf (freshReader dir) capture .frame ≡ totalsOf dir capture .frame
+  pub broken : (dir : Direction) (capture : List ℕ) → partOf (freshReader dir) capture .broken ≡ totalsOf dir capture .broken
+  pub noise : (dir : Direction) (capture : List ℕ) → partOf (freshReader dir) capture .noise ≡ totalsOf dir capture .noise
+  pub pending : (dir : Direction) (capture : List ℕ) → partOf (freshReader dir) capture .reader .place ≡ totalsOf dir capture .pending

@@ -14,11 +14,11 @@ use Rattle.frame.specs.declared.reader.Reader.{Reader}
 use Rattle.frame.specs.declared.reader.Fed.{Fed}
 
 -- what is kept of the bytes taken: how many they are, and Dl
-abbrev pub kept : Direction → List ℕ → Reader
-kept dir taken = record { direction = dir; place = length taken; dl = dl dir taken }
+abbrev pub readerOf : Direction → List ℕ → Reader
+readerOf dir taken = record { direction = dir; place = length taken; dl = dl dir taken }
 
-abbrev pub fresh : Direction → Reader
-fresh dir = record { direction = dir; place = 0; dl = 0 }
+abbrev pub freshReader : Direction → Reader
+freshReader dir = record { direction = dir; place = 0; dl = 0 }
 
 abbrev pub stood : Direction → ℕ → ℕ → ByteAnswer → Fed
 stood dir place n answer = record { reader = record { direction = dir; place = place; dl = n }; answer = answer }

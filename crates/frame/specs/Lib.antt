@@ -1,16 +1,15 @@
 -- What must be believed: what the rest uses, the frame and its reader, captures; then the promises. `Computed` need not be
 -- believed.
-pub mod Refusal
 pub mod Letter
 pub mod Frame
 pub mod Reader
 pub mod Meaning
 pub mod KeptReader
 pub mod Capture
-pub mod OneAnswer
-pub mod RulePromise
+pub mod Numbers
 pub mod AnswerPromise
 pub mod ReaderPromise
 pub mod CutPromise
 pub mod CapturePromise
+pub mod CaptureRefusalPromise
 pub mod Computed

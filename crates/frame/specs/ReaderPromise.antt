@@ -6,12 +6,12 @@ use mathlib.Core.List.{List, []}
 use Prim.Native.Nat.{ℕ, _+_, _≤_, _<_}
 use Rattle.frame.specs.Frame.{header}
 use Rattle.frame.specs.Reader.{answers, takenBy}
-use Rattle.frame.specs.KeptReader.{fresh, kept, fedOf, answersOf, readerAfter}
+use Rattle.frame.specs.KeptReader.{freshReader, readerOf, fedOf, answersOf, readerAfter}
 use Rattle.frame.specs.declared.direction.Direction.{Direction}
 
 pub record ReaderPromise : Type 0 where
-  pub told : (dir : Direction) (stream : List ℕ) → answersOf (fresh dir) stream ≡ answers dir [] stream
-  pub stands : (dir : Direction) (stream : List ℕ) → readerAfter (fresh dir) stream ≡ kept dir (takenBy dir [] stream)
+  pub told : (dir : Direction) (stream : List ℕ) → answersOf (freshReader dir) stream ≡ answers dir [] stream
+  pub stands : (dir : Direction) (stream : List ℕ) → readerAfter (freshReader dir) stream ≡ readerOf dir (takenBy dir [] stream)
 
 pub record SpoiltPromise (dir : Direction) (place n b : ℕ) : Type 0 where
   pub past : header dir + n ≤ place

@@ -2,7 +2,7 @@ use crate::direction::Direction;
 ghost use mathlib.Core.Path.{_≡_};
 ghost use Prim.Native.Nat.{_≤_};
 ghost use Rattle.frame.specs.Frame.{header};
-ghost use Rattle.frame.specs.KeptReader.{fresh, stood, fedAt, fedOf};
+ghost use Rattle.frame.specs.KeptReader.{freshReader, stood, fedAt, fedOf};
 
 // The answer to one byte. A frame and a broken stretch come with their length in bytes. The host
 // keeps the bytes: 261 of them are enough for the longest frame.
@@ -43,7 +43,7 @@ impl Reader {
 
     // A fresh reader stands outside any frame.
     pub fn new(direction: Direction) -> Self
-        ensures { λ r. ⌜ r ≡ fresh direction ⌝ }
+        ensures { λ r. ⌜ r ≡ freshReader direction ⌝ }
     {
         Self {
             direction: direction,

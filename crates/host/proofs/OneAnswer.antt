@@ -2,8 +2,8 @@
 use mathlib.Core.Path.{_≡_}
 use mathlib.Core.List.{List}
 use Prim.Native.Nat.{ℕ}
-use Rattle.frame.specs.OneAnswer.{OneAnswer}
-use Rattle.fields.proofs.OneAnswer.{one, one-lent}
+use Rattle.refusals.specs.OneAnswer.{OneAnswer}
+use Rattle.refusals.proofs.One.{one, one-lent}
 use Rattle.row.specs.declared.profile.Profile.{Profile}
 use Rattle.message.specs.declared.read.Reading.{Reading}
 use Rattle.sheet.specs.Sheet.{withAll}
@@ -13,7 +13,7 @@ use Rattle.sheet.specs.declared.line.Line.{Line}
 use Rattle.sheet.specs.declared.sheet.Sheet.{Sheet}
 use Rattle.sheetfile.specs.declared.write.SheetWritten.{SheetWritten}
 use Rattle.tracker.specs.Tracker.{keptIn}
-use Rattle.tracker.specs.Feed.{fed}
+use Rattle.tracker.specs.Feed.{answerFed}
 use Rattle.signing.specs.Sign.{signOff}
 use Rattle.signing.specs.Capture.{captureFed, captureSigned}
 use Rattle.tracker.specs.declared.tracker.Tracker.{Tracker}
@@ -39,8 +39,8 @@ read-cell-one tracker zone command = one (keptIn tracker zone command)
 
 -- a tracker lent mutably: the answer, and the tracker after it
 pub feed-one : (tracker : Tracker) (zone command answer : ℕ) (body : List ℕ)
-    → OneAnswer (λ (x : Reading × Tracker). (x .0 ≡ fed tracker zone command answer body .reading) × (x .1 ≡ fed tracker zone command answer body .tracker))
-feed-one tracker zone command answer body = one-lent (fed tracker zone command answer body .reading) (fed tracker zone command answer body .tracker)
+    → OneAnswer (λ (x : Reading × Tracker). (x .0 ≡ answerFed tracker zone command answer body .reading) × (x .1 ≡ answerFed tracker zone command answer body .tracker))
+feed-one tracker zone command answer body = one-lent (answerFed tracker zone command answer body .reading) (answerFed tracker zone command answer body .tracker)
 
 pub feed-capture-one : (tracker : Tracker) (capture : List ℕ)
     → OneAnswer (λ (x : CaptureAnswer × Tracker). (x .0 ≡ captureFed tracker capture .answer) × (x .1 ≡ captureFed tracker capture .tracker))

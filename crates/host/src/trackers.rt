@@ -14,7 +14,7 @@ use tracker::tracker::Tracker;
 use tracker::tracker::kept_in;
 ghost use mathlib.Core.Path.{_≡_};
 ghost use Rattle.tracker.specs.Tracker.{keptIn};
-ghost use Rattle.tracker.specs.Feed.{fed};
+ghost use Rattle.tracker.specs.Feed.{answerFed};
 ghost use Rattle.signing.specs.Sign.{signOff};
 ghost use Rattle.signing.specs.Capture.{captureFed, captureSigned};
 
@@ -28,7 +28,7 @@ pub fn read_cell(tracker: &Tracker, zone: u8, command: u8) -> Kept
 // Feeds what an answer's frame brings to the tracker where the host keeps it: a status answer makes its one cell
 // known. It gives the message, or the number of the refusal, and then the tracker is as it was.
 pub fn feed(tracker: &mut Tracker, zone: u8, command: u8, answer: u8, body: &[u8]) -> Reading
-    ensures { λ r. ⌜ (r ≡ fed (now (tracker .entry)) zone command answer (now (body .entry)) .reading) × (now (tracker .exit) ≡ fed (now (tracker .entry)) zone command answer (now (body .entry)) .tracker) ⌝ }
+    ensures { λ r. ⌜ (r ≡ answerFed (now (tracker .entry)) zone command answer (now (body .entry)) .reading) × (now (tracker .exit) ≡ answerFed (now (tracker .entry)) zone command answer (now (body .entry)) .tracker) ⌝ }
 {
     let f = after_answer(*tracker, zone, command, answer, body);
     *tracker = f.tracker;

@@ -7,19 +7,19 @@ use native.Mathlib.Omega.{arith}
 use borrow.Author.Tests.{eqb-true, eqb-false, not-false}
 use lib.Dec.{eqb}
 use lib.ListN.{length}
-use Rattle.frame.specs.Refusal.{Line, ruled}
+use Rattle.refusals.specs.Rule.{Rule, ruled}
 use Rattle.frame.specs.declared.direction.Direction.{Direction}
-use Rattle.frame.proofs.Ruled.{refuses, firstNumber, ruled-append, was-refused, was-accepted, refused-with, accepted-by, pass-first}
+use Rattle.refusals.proofs.Ruled.{refuses, firstNumber, ruled-append, was-refused, was-accepted, refused-with, accepted-by, pass-first}
 use Rattle.row.specs.Table.{rowOf}
 use Rattle.row.specs.declared.profile.Profile.{Profile}
 use Rattle.row.specs.declared.table.Row.{Row}
-use Rattle.judging.specs.Judge.{lengthOf, valueOf, profileZone, noRow, rowZone, isMissing, wrongLength, wrongValue, rowIn, rowLines, judgeLines, rowJudged, judgedOf}
+use Rattle.judging.specs.Judge.{hasLength, hasValue, profileZone, noRow, rowZone, isMissing, wrongLength, wrongValue, rowIn, rowRules, judgeRules, rowJudged, judgedOf}
 use Rattle.judging.specs.declared.judge.Judged.the-variants.{Legal, Refused}
 
 legal-differs : (row : Row) (n : ℕ) → Legal row ≡ Refused n → ⊥
 legal-differs row n e = let z : _≡_ {A = ℕ} 0 1 = cc in omega arith
 
-module _ (ls : List Line) (row : Row) where
+module _ (ls : List Rule) (row : Row) where
   pub judged-refused : (n : ℕ) → ruled ls Refused (Legal row) ≡ Refused n → (refuses ls ≡ true) × (firstNumber ls ≡ n)
   judged-refused n e =
       let w = was-refused ls Refused (Legal row) (Refused n) e (legal-differs row n) in
@@ -39,10 +39,10 @@ module _ (ls : List Line) (row : Row) where
 -- the lines of a judgement, none of which applies
 pub record Passes (profile : Profile) (dir : Direction) (zone command : ℕ) (body : List ℕ) : Type 0 where
   pub found : isMissing (rowOf profile command) ≡ false
-  pub long : lengthOf dir (rowIn (rowOf profile command)) (length body) ≡ true
-  pub value : valueOf dir (rowIn (rowOf profile command)) body ≡ true
+  pub long : hasLength dir (rowIn (rowOf profile command)) (length body) ≡ true
+  pub value : hasValue dir (rowIn (rowOf profile command)) body ≡ true
 
-pub judge-passes : (profile : Profile) (dir : Direction) (zone command : ℕ) (body : List ℕ) → refuses (judgeLines profile dir zone command body) ≡ false
+pub judge-passes : (profile : Profile) (dir : Direction) (zone command : ℕ) (body : List ℕ) → refuses (judgeRules profile dir zone command body) ≡ false
     → Passes profile dir zone command body
 judge-passes profile dir zone command body e =
     let row = rowIn (rowOf profile command) in
@@ -62,30 +62,30 @@ module _ (profile : Profile) (dir : Direction) (zone command : ℕ) (body : List
   abbrev there : Row
   there = rowIn (rowOf profile command)
 
-  abbrev more : List Line
+  abbrev more : List Rule
   more = wrongLength dir there (length body) ∷ wrongValue dir there body ∷ []
 
-  judged-on : judgedOf profile dir zone command body ≡ ruled (rowLines profile zone command) Refused (ruled more Refused (Legal there))
+  judged-on : judgedOf profile dir zone command body ≡ ruled (rowRules profile zone command) Refused (ruled more Refused (Legal there))
   unfolding judgedOf
-  judged-on = ruled-append (rowLines profile zone command) more Refused (Legal there)
+  judged-on = ruled-append (rowRules profile zone command) more Refused (Legal there)
 
   pub judge-refused : (n : ℕ) → rowJudged profile zone command ≡ Refused n → judgedOf profile dir zone command body ≡ Refused n
   unfolding rowJudged
   judge-refused n e =
-      let r = judged-refused (rowLines profile zone command) there n e in
-      judged-on ∙ refused-with (rowLines profile zone command) Refused _ n (r .0) (r .1)
+      let r = judged-refused (rowRules profile zone command) there n e in
+      judged-on ∙ refused-with (rowRules profile zone command) Refused _ n (r .0) (r .1)
 
   pub judge-legal : (row : Row) → rowJudged profile zone command ≡ Legal row
-      → judgedOf profile dir zone command body ≡ cond (not (lengthOf dir row (length body))) (Refused 3) (cond (not (valueOf dir row body)) (Refused 4) (Legal row))
+      → judgedOf profile dir zone command body ≡ cond (not (hasLength dir row (length body))) (Refused 3) (cond (not (hasValue dir row body)) (Refused 4) (Legal row))
   unfolding rowJudged
   judge-legal row e =
-      let l = judged-legal (rowLines profile zone command) there row e in
-      judged-on ∙ accepted-by (rowLines profile zone command) Refused _ (l .0) ∙ rw (← l .1)
+      let l = judged-legal (rowRules profile zone command) there row e in
+      judged-on ∙ accepted-by (rowRules profile zone command) Refused _ (l .0) ∙ rw (← l .1)
 
 -- data whose length fits are not empty
-pub length-some : (dir : Direction) (row : Row) (n : ℕ) → lengthOf dir row n ≡ true → 0 < n
+pub length-some : (dir : Direction) (row : Row) (n : ℕ) → hasLength dir row n ≡ true → 0 < n
 length-some dir row n e = go (eqb n 0) refl
   where
     go : (t : Bool) → eqb n 0 ≡ t → 0 < n
-    go true f = let z : false ≡ true = sym (ap (λ (k : ℕ). lengthOf dir row k) (eqb-true n 0 f)) ∙ e in let y : _≡_ {A = ℕ} 0 1 = cc in absurd (omega arith)
+    go true f = let z : false ≡ true = sym (ap (λ (k : ℕ). hasLength dir row k) (eqb-true n 0 f)) ∙ e in let y : _≡_ {A = ℕ} 0 1 = cc in absurd (omega arith)
     go false f = omega (arith, eqb-false n 0 f)

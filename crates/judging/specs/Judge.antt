@@ -4,7 +4,7 @@ use mathlib.Core.Bool.{Bool, true, false, cond, not, _&&_, _||_}
 use mathlib.Core.List.{List, [], _∷_, _++_}
 use lib.Dec.{eqb, leb, ltb}
 use lib.ListN.{length, getD}
-use Rattle.frame.specs.Refusal.{Line, line, ruled}
+use Rattle.refusals.specs.Rule.{Rule, rule, ruled}
 use Rattle.frame.specs.declared.direction.Direction.{Direction}
 use Rattle.frame.specs.declared.direction.Direction.the-variants.{Command, Answer}
 use Rattle.row.specs.Profile.{zonesOf}
@@ -43,39 +43,39 @@ abbrev pub oneByte : Direction → Row → Bool
 oneByte Command row = true
 oneByte Answer row = not (row .pair)
 
-abbrev pub lengthOf : Direction → Row → ℕ → Bool
-lengthOf dir row n = cond (eqb n 2) (row .pair) (eqb n 1 && oneByte dir row)
+abbrev pub hasLength : Direction → Row → ℕ → Bool
+hasLength dir row n = cond (eqb n 2) (row .pair) (eqb n 1 && oneByte dir row)
 
 -- one byte of data
-abbrev pub byteOf : Direction → Row → ℕ → Bool
-byteOf Command row b = isSetting row b || isWord row b
-byteOf Answer row b = isAnswer row b
+abbrev pub hasByte : Direction → Row → ℕ → Bool
+hasByte Command row b = isSetting row b || isWord row b
+hasByte Answer row b = isAnswer row b
 
 -- data of one byte or two
-abbrev pub valueOf : Direction → Row → List ℕ → Bool
-valueOf dir row body = cond (eqb (length body) 2) (isPair row (getD body 0 0) (getD body 1 0)) (byteOf dir row (getD body 0 0))
+abbrev pub hasValue : Direction → Row → List ℕ → Bool
+hasValue dir row body = cond (eqb (length body) 2) (isPair row (getD body 0 0) (getD body 1 0)) (hasByte dir row (getD body 0 0))
 
 -- 1: "zone not of the profile, or not 1 in a zone-1 row"
-abbrev pub profileZone : Profile → ℕ → Line
-profileZone profile zone = line 1 (eqb zone 0 || ltb (zonesOf profile) zone)
+abbrev pub profileZone : Profile → ℕ → Rule
+profileZone profile zone = rule 1 (eqb zone 0 || ltb (zonesOf profile) zone)
 
-abbrev pub rowZone : Row → ℕ → Line
-rowZone row zone = line 1 (ltb (row .zones) zone)
+abbrev pub rowZone : Row → ℕ → Rule
+rowZone row zone = rule 1 (ltb (row .zones) zone)
 
 -- 2: "command without a row in the profile"
 abbrev pub isMissing : Found → Bool
 isMissing (found.Row row) = false
 isMissing found.NoRow = true
 
-abbrev pub noRow : Profile → ℕ → Line
-noRow profile command = line 2 (isMissing (rowOf profile command))
+abbrev pub noRow : Profile → ℕ → Rule
+noRow profile command = rule 2 (isMissing (rowOf profile command))
 
 -- 3: "data length that the row and direction lack"; 4: "data value that the row and direction lack"
-abbrev pub wrongLength : Direction → Row → ℕ → Line
-wrongLength dir row n = line 3 (not (lengthOf dir row n))
+abbrev pub wrongLength : Direction → Row → ℕ → Rule
+wrongLength dir row n = rule 3 (not (hasLength dir row n))
 
-abbrev pub wrongValue : Direction → Row → List ℕ → Line
-wrongValue dir row body = line 4 (not (valueOf dir row body))
+abbrev pub wrongValue : Direction → Row → List ℕ → Rule
+wrongValue dir row body = rule 4 (not (hasValue dir row body))
 
 -- the row of a command; where there is none, line 2 has refused it
 abbrev pub blank : Row
@@ -102,18 +102,18 @@ rowIn (found.Row row) = row
 rowIn found.NoRow = blank
 
 -- "Commands: zone of the profile, row, zone of the row, 3, 4."
-abbrev pub rowLines : Profile → ℕ → ℕ → List Line
-rowLines profile zone command = profileZone profile zone ∷ noRow profile command ∷ rowZone (rowIn (rowOf profile command)) zone ∷ []
+abbrev pub rowRules : Profile → ℕ → ℕ → List Rule
+rowRules profile zone command = profileZone profile zone ∷ noRow profile command ∷ rowZone (rowIn (rowOf profile command)) zone ∷ []
 
-abbrev pub judgeLines : Profile → Direction → ℕ → ℕ → List ℕ → List Line
-judgeLines profile dir zone command body =
-    rowLines profile zone command
+abbrev pub judgeRules : Profile → Direction → ℕ → ℕ → List ℕ → List Rule
+judgeRules profile dir zone command body =
+    rowRules profile zone command
     ++ wrongLength dir (rowIn (rowOf profile command)) (length body)
     ∷ wrongValue dir (rowIn (rowOf profile command)) body
     ∷ []
 
 unfoldable pub rowJudged : Profile → ℕ → ℕ → Judged
-rowJudged profile zone command = ruled (rowLines profile zone command) Refused (Legal (rowIn (rowOf profile command)))
+rowJudged profile zone command = ruled (rowRules profile zone command) Refused (Legal (rowIn (rowOf profile command)))
 
 unfoldable pub judgedOf : Profile → Direction → ℕ → ℕ → List ℕ → Judged
-judgedOf profile dir zone command body = ruled (judgeLines profile dir zone command body) Refused (Legal (rowIn (rowOf profile command)))
+judgedOf profile dir zone command body = ruled (judgeRules profile dir zone command body) Refused (Legal (rowIn (rowOf profile command)))

@@ -6,7 +6,7 @@ use row::table::Row;
 ghost use mathlib.Core.Path.{_≡_};
 ghost use Prim.Native.Nat.{_<_};
 ghost use lib.ListN.{length};
-ghost use Rattle.judging.specs.Judge.{within, isSetting, isAnswer, isWord, isPair, byteOf, lengthOf, valueOf, rowJudged, judgedOf};
+ghost use Rattle.judging.specs.Judge.{within, isSetting, isAnswer, isWord, isPair, hasByte, hasLength, hasValue, rowJudged, judgedOf};
 ghost use Rattle.frame.specs.declared.direction.Direction.the-variants as direction;
 ghost use mathlib.Core.Bool.{_||_};
 
@@ -55,7 +55,7 @@ pub fn judge_row(profile: Profile, zone: u8, command: u8) -> Judged
 
 // Whether a row has data of this length in a direction.
 pub fn length_fits(direction: Direction, row: Row, length: usize) -> bool
-    ensures { λ r. ⌜ r ≡ lengthOf direction row length ⌝ }
+    ensures { λ r. ⌜ r ≡ hasLength direction row length ⌝ }
 {
     if length == 2 {
         return row.pair;
@@ -72,7 +72,7 @@ pub fn length_fits(direction: Direction, row: Row, length: usize) -> bool
 // Whether a row has these data in a direction, of one byte or two.
 fn value_fits(direction: Direction, row: Row, body: &[u8]) -> bool
     requires { ⌜ 0 < length (now body) ⌝ }
-    ensures { λ r. ⌜ r ≡ valueOf direction row (now (body .entry)) ⌝ }
+    ensures { λ r. ⌜ r ≡ hasValue direction row (now (body .entry)) ⌝ }
 {
     if body.len() == 2 {
         return pair_fits(row, body[0], body[1]);
@@ -98,7 +98,7 @@ fn pair_fits(row: Row, input: u8, state: u8) -> bool
 
 // Whether a command of this row may hold this one byte.
 fn command_fits(row: Row, byte: u8) -> bool
-    ensures { λ r. ⌜ r ≡ byteOf direction.Command row byte ⌝ }
+    ensures { λ r. ⌜ r ≡ hasByte direction.Command row byte ⌝ }
 {
     if is_setting(row, byte) {
         return true;

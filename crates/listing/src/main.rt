@@ -25,7 +25,7 @@ fn list(input: &[u8]) {
         if count == 0 {
             return;
         }
-        io::write_all(1, fields::fields::bytes_at(&piece, 0, count));
+        io::write_all(1, lent::part::bytes_at(&piece, 0, count));
         place = next;
     }
 }

@@ -2,9 +2,9 @@
 use mathlib.Core.Path.{_≡_}
 use mathlib.Core.List.{List}
 use Prim.Native.Nat.{ℕ}
-use Rattle.frame.specs.OneAnswer.{OneAnswer}
-use Rattle.fields.specs.declared.raw.Written.{Written}
-use Rattle.fields.proofs.OneAnswer.{one-lent}
+use Rattle.refusals.specs.OneAnswer.{OneAnswer}
+use Rattle.lent.specs.declared.written.Written.{Written}
+use Rattle.refusals.proofs.One.{one-lent}
 use Rattle.listing_text.specs.Number.{decimal, hexByte}
 use Rattle.listing_pieces.specs.Text.{textAnswered, textLeft}
 use Rattle.listing_pieces.specs.Pieces.{pieceAnswered, pieceLeft}

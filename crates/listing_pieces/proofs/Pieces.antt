@@ -7,14 +7,14 @@ use native.Mathlib.Omega.{arith}
 use borrow.Author.Tests.{lt-ltb, le-ltb}
 use lib.Dec.{ltb}
 use lib.ListN.{length, length-append}
-use Rattle.fields.specs.Raw.{placed}
+use Rattle.lent.specs.Placed.{placed}
 use Rattle.frame.specs.Capture.{eventsFrom, firstOf}
 use Rattle.frame.specs.declared.direction.Direction.{Direction}
 use Rattle.frame.specs.declared.capture.Event.{Event}
 use Rattle.frame.proofs.Leads.{leads}
 use Rattle.row.specs.declared.profile.Profile.{Profile}
 use Rattle.listing_text.specs.Listing.{eventLine}
-use Rattle.listing_pieces.specs.Pieces.{lineLimit, Given, given, eventSteps, linesFrom, filled, textAs}
+use Rattle.listing_pieces.specs.Pieces.{lineLimit, Given, given, comingEvents, comingFrom, filled, textAs}
 use Rattle.listing_pieces.specs.Computed.{Put, firstText, firstNext, isEnd}
 use Rattle.listing_pieces.specs.declared.piece.Place.{Place}
 use Rattle.listing_pieces.specs.declared.piece.Place.the-variants as place
@@ -46,20 +46,20 @@ filled-cases P room at g gs full more = go (ltb room lineLimit)
 
 module _ (profile : Profile) (dir : Direction) (capture : List ℕ) where
   abbrev lines : Place → List Given
-  lines at = linesFrom profile dir capture at
+  lines at = comingFrom profile dir capture at
 
   steps-on : (at : ℕ) (es : List Event) → eventsFrom dir capture at ≡ es
-      → eventSteps profile dir capture es
-      ≡ given (firstText (eventSteps profile dir capture es)) (firstNext (place.Event at) (eventSteps profile dir capture es))
-      ∷ lines (firstNext (place.Event at) (eventSteps profile dir capture es))
-  unfolding eventSteps
+      → comingEvents profile dir capture es
+      ≡ given (firstText (comingEvents profile dir capture es)) (firstNext (place.Event at) (comingEvents profile dir capture es))
+      ∷ lines (firstNext (place.Event at) (comingEvents profile dir capture es))
+  unfolding comingEvents
   steps-on at [] f = refl
   steps-on at (e ∷ es) f =
       let lead = leads dir capture at e (sym (ap firstOf f)) in
       let tails : e ∷ es ≡ e ∷ eventsFrom dir capture (at + e .length) = sym f ∙ lead .behind in
       let others : es ≡ eventsFrom dir capture (at + e .length) = cc in
       let there : at + e .length ≡ e .at + e .length = omega (arith, lead .within .starts) in
-      ap (λ (xs : List Event). given (eventLine profile dir capture e) (place.Event (e .at + e .length)) ∷ eventSteps profile dir capture xs)
+      ap (λ (xs : List Event). given (eventLine profile dir capture e) (place.Event (e .at + e .length)) ∷ comingEvents profile dir capture xs)
       (others ∙ ap (λ (k : ℕ). eventsFrom dir capture k) there)
 
   -- the lines behind the first are those of the place that it leads to

@@ -5,7 +5,7 @@ use Prim.Native.Nat.{ℕ, _+_, _-_, _≤_}
 use native.Mathlib.Omega.{arith}
 use lib.ListN.{length, take, drop, length-append, take-append-drop}
 use lib.Seq.{length-take-le, take-at, drop-at, drop-drop}
-use Rattle.fields.specs.Raw.{placed}
+use Rattle.lent.specs.Placed.{placed}
 use Rattle.listing_text.specs.Listing.{textLine}
 use Rattle.listing_pieces.specs.Computed.{Put, behind}
 

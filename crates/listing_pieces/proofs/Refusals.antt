@@ -5,12 +5,12 @@ use mathlib.Core.List.{List}
 use Prim.Native.Nat.{ℕ, _≤_, _<_}
 use borrow.Author.Tests.{lt-ltb, le-ltb}
 use lib.ListN.{length}
-use Rattle.frame.specs.Refusal.{noRoom}
-use Rattle.fields.specs.Numbers.{writtenNumber, writtenCount}
+use Rattle.lent.specs.Written.{noRoom}
+use Rattle.lent.specs.Written.{writtenNumber, writtenCount}
 use Rattle.listing_pieces.specs.Text.{textAnswered, textLeft}
 use Rattle.listing_pieces.specs.Pieces.{lineLimit, pieceOf, pieceAnswered, pieceLeft}
 use Rattle.listing_pieces.specs.Numbers.{pieceNumber, pieceCount}
-use Rattle.listing_pieces.specs.PieceRefusalPromise.{RefusalPromise}
+use Rattle.listing_pieces.specs.PieceRefusalPromise.{PieceRefusalPromise}
 use Rattle.listing_pieces.specs.declared.piece.Place.{Place}
 
 text : (buf : List ℕ) (at : ℕ) (bytes : List ℕ) → noRoom buf at (length bytes) .applies ≡ true
@@ -29,5 +29,5 @@ piece-given : (input : List ℕ) (at : Place) (buf : List ℕ) → lineLimit ≤
     → (pieceNumber (pieceAnswered input at buf) ≡ 0) × (pieceCount (pieceAnswered input at buf) ≡ length (pieceOf input at (length buf) .text))
 piece-given input at buf h = rw (le-ltb (length buf) lineLimit h) (refl, refl)
 
-pub refusal-promise : RefusalPromise
+pub refusal-promise : PieceRefusalPromise
 refusal-promise = record { text = text; text-written = text-written; piece = piece; piece-given = piece-given }

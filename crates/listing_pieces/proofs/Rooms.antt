@@ -4,10 +4,10 @@ use mathlib.Core.List.{List}
 use Prim.Native.Nat.{ℕ, _-_, _≤_, _<_}
 use native.Mathlib.Omega.{arith}
 use lib.ListN.{length}
-use Rattle.fields.specs.Raw.{placed}
-use Rattle.fields.specs.declared.raw.Written.{Written}
-use Rattle.fields.specs.declared.raw.Written.the-variants.{Bytes, Refused}
-use Rattle.fields.proofs.Room.{no-place, no-room, has-room}
+use Rattle.lent.specs.Placed.{placed}
+use Rattle.lent.specs.declared.written.Written.{Written}
+use Rattle.lent.specs.declared.written.Written.the-variants.{Bytes, Refused}
+use Rattle.lent.proofs.Room.{no-place, no-room, has-room}
 use Rattle.listing_pieces.specs.Text.{textAnswered, textLeft}
 
 module _ (buf : List ℕ) (at : ℕ) (bytes : List ℕ) (n : ℕ) (long : length bytes ≡ n) where

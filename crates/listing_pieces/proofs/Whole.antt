@@ -11,7 +11,7 @@ use Rattle.frame.specs.declared.direction.Direction.{Direction}
 use Rattle.frame.specs.declared.capture.Event.{Event}
 use Rattle.row.specs.declared.profile.Profile.{Profile}
 use Rattle.listing_text.specs.Listing.{heading, eventLine, eventLines, totalLine, refusedText, asked, listedAs, listed}
-use Rattle.listing_pieces.specs.Pieces.{lineLimit, Given, given, eventSteps, linesFrom, refusedLines, linesAs, linesIn, filled, pieceOf, textAs, pieceAnswered, pieceLeft, texts, pieces}
+use Rattle.listing_pieces.specs.Pieces.{lineLimit, Given, given, comingEvents, comingFrom, comingRefused, comingAs, comingIn, filled, pieceOf, textAs, pieceAnswered, pieceLeft, texts, pieces}
 use Rattle.listing_pieces.specs.PiecesPromise.{PiecesPromise}
 use Rattle.listing_pieces.specs.Computed.{firstText, firstNext}
 use Rattle.listing_text.specs.declared.asked.Asked.{Asked}
@@ -25,25 +25,25 @@ use Rattle.listing_pieces.proofs.Pieces.{filled-on, filled-cases, lines
 abbrev Chain : (Place → List Given) → Type 0
 Chain lines = (at : Place) (g : Given) (gs : List Given) → lines at ≡ g ∷ gs → gs ≡ lines (g .next)
 
-chain-of : (profile : Profile) (dir : Direction) (capture : List ℕ) → Chain (linesFrom profile dir capture)
+chain-of : (profile : Profile) (dir : Direction) (capture : List ℕ) → Chain (comingFrom profile dir capture)
 chain-of profile dir capture place.Start g gs e =
     let same = lines-on profile dir capture place.Start refl in cc
 chain-of profile dir capture (place.Event at) g gs e =
     let on = lines-on profile dir capture (place.Event at) refl in
-    let tails : g ∷ gs ≡ given (firstText (linesFrom profile dir capture (place.Event at))) (firstNext (place.Event at) (linesFrom profile dir capture (place.Event at))) ∷ linesFrom profile dir capture (firstNext (place.Event at) (linesFrom profile dir capture (place.Event at))) = sym e ∙ on in
-    let others : gs ≡ linesFrom profile dir capture (firstNext (place.Event at) (linesFrom profile dir capture (place.Event at))) = cc in
-    others ∙ ap (λ (xs : List Given). linesFrom profile dir capture (firstNext (place.Event at) xs)) e
+    let tails : g ∷ gs ≡ given (firstText (comingFrom profile dir capture (place.Event at))) (firstNext (place.Event at) (comingFrom profile dir capture (place.Event at))) ∷ comingFrom profile dir capture (firstNext (place.Event at) (comingFrom profile dir capture (place.Event at))) = sym e ∙ on in
+    let others : gs ≡ comingFrom profile dir capture (firstNext (place.Event at) (comingFrom profile dir capture (place.Event at))) = cc in
+    others ∙ ap (λ (xs : List Given). comingFrom profile dir capture (firstNext (place.Event at) xs)) e
 chain-of profile dir capture place.End g gs e = let z : _≡_ {A = ℕ} 0 1 = cc in absurd (omega arith)
 
-chain-refused : (n : ℕ) → Chain (refusedLines n)
+chain-refused : (n : ℕ) → Chain (comingRefused n)
 chain-refused n place.Start g gs e =
     let none : gs ≡ [] = cc in
     let last : g ≡ given (refusedText n) place.End = cc in
-    none ∙ sym (ap (λ (x : Given). refusedLines n (x .next)) last)
+    none ∙ sym (ap (λ (x : Given). comingRefused n (x .next)) last)
 chain-refused n (place.Event at) g gs e = let z : _≡_ {A = ℕ} 0 1 = cc in absurd (omega arith)
 chain-refused n place.End g gs e = let z : _≡_ {A = ℕ} 0 1 = cc in absurd (omega arith)
 
-chain : (a : Asked) (capture : List ℕ) → Chain (linesAs a capture)
+chain : (a : Asked) (capture : List ℕ) → Chain (comingAs a capture)
 chain (asks.Listing p dir) capture = chain-of p dir capture
 chain (asks.Refused n) capture = chain-refused n
 
@@ -87,10 +87,10 @@ module _ (lines : Place → List Given) (linked : Chain lines) where
 
 -- what pieces of an input give out, and how many are enough
 module _ (input : List ℕ) (room : ℕ) (h : lineLimit ≤ room) where
-  linked-in : Chain (linesIn input)
+  linked-in : Chain (comingIn input)
   linked-in = chain (asked input) (drop 2 input)
 
-  enough : (n : ℕ) (at : Place) (gs : List Given) → linesIn input at ≡ gs → length gs ≤ n → pieces n room input at ≡ texts gs
+  enough : (n : ℕ) (at : Place) (gs : List Given) → comingIn input at ≡ gs → length gs ≤ n → pieces n room input at ≡ texts gs
   unfolding pieces texts filled
   enough zero at [] e few = refl
   enough zero at (g ∷ gs) e few = absurd (omega arith)
@@ -99,28 +99,28 @@ module _ (input : List ℕ) (room : ℕ) (h : lineLimit ≤ room) where
       rw none (enough n at [] e (omega arith))
   enough (suc n) at (g ∷ gs) e few =
       let next = filled room at (g ∷ gs) .next in
-      let less = lines-less (linesIn input) linked-in room at g gs h e in
+      let less = lines-less (comingIn input) linked-in room at g gs h e in
       let this : pieceOf input at room ≡ filled room at (g ∷ gs) = ap (λ (xs : List Given). filled room at xs) e in
-      rw this (ap (λ (xs : List ℕ). filled room at (g ∷ gs) .text ++ xs) (enough n next (linesIn input next) refl (omega (arith, less, few)))
-      ∙ sym (texts-on (linesIn input) linked-in room at (g ∷ gs) e))
+      rw this (ap (λ (xs : List ℕ). filled room at (g ∷ gs) .text ++ xs) (enough n next (comingIn input next) refl (omega (arith, less, few)))
+      ∙ sym (texts-on (comingIn input) linked-in room at (g ∷ gs) e))
 
 -- the lines are the listing's text
 steps-texts : (profile : Profile) (dir : Direction) (capture : List ℕ) (es : List Event)
-    → texts (eventSteps profile dir capture es) ≡ eventLines profile dir capture es ++ totalLine (length capture) (totalsOf dir capture)
-unfolding eventSteps texts eventLines
+    → texts (comingEvents profile dir capture es) ≡ eventLines profile dir capture es ++ totalLine (length capture) (totalsOf dir capture)
+unfolding comingEvents texts eventLines
 steps-texts profile dir capture [] = append-nil (totalLine (length capture) (totalsOf dir capture))
 steps-texts profile dir capture (e ∷ es) =
     ap (λ (xs : List ℕ). eventLine profile dir capture e ++ xs) (steps-texts profile dir capture es)
     ∙ sym (append-assoc (eventLine profile dir capture e) (eventLines profile dir capture es) (totalLine (length capture) (totalsOf dir capture)))
 
-whole-as : (a : Asked) (capture : List ℕ) → texts (linesAs a capture place.Start) ≡ listedAs a capture
+whole-as : (a : Asked) (capture : List ℕ) → texts (comingAs a capture place.Start) ≡ listedAs a capture
 unfolding texts
 whole-as (asks.Listing p dir) capture =
     ap (λ (xs : List ℕ). heading ++ xs) (steps-texts p dir capture (eventsFrom dir capture 0))
     ∙ sym (append-assoc heading (eventLines p dir capture (eventsFrom dir capture 0)) (totalLine (length capture) (totalsOf dir capture)))
 whole-as (asks.Refused n) capture = append-nil (refusedText n)
 
-whole : (input : List ℕ) → texts (linesIn input place.Start) ≡ listed input
+whole : (input : List ℕ) → texts (comingIn input place.Start) ≡ listed input
 whole input = whole-as (asked input) (drop 2 input)
 
 stands : (input : List ℕ) (at : Place) (buf : List ℕ) → lineLimit ≤ length buf
@@ -137,14 +137,14 @@ leaves input at buf h =
 pub pieces-promise : PiecesPromise
 pieces-promise = record {
   whole = whole;
-  goes-on = λ input at room. texts-on (linesIn input) (chain (asked input) (drop 2 input)) room at (linesIn input at) refl;
+  goes-on = λ input at room. texts-on (comingIn input) (chain (asked input) (drop 2 input)) room at (comingIn input at) refl;
   stands = stands;
   behind = leaves;
-  ends = λ input at room h e. texts-none (linesIn input) (chain (asked input) (drop 2 input)) room at (linesIn input at) h e;
-  all = λ input room n h few. enough input room h n place.Start (linesIn input place.Start) refl few ∙ whole input;
+  ends = λ input at room h e. texts-none (comingIn input) (chain (asked input) (drop 2 input)) room at (comingIn input at) h e;
+  all = λ input room n h few. enough input room h n place.Start (comingIn input place.Start) refl few ∙ whole input;
 }
 
-no-line : (input : List ℕ) (at : Place) (room : ℕ) → linesIn input at ≡ [] → 0 < length (pieceOf input at room .text) → ⊥
+no-line : (input : List ℕ) (at : Place) (room : ℕ) → comingIn input at ≡ [] → 0 < length (pieceOf input at room .text) → ⊥
 unfolding filled
 no-line input at room e some =
     let none : length (pieceOf input at room .text) ≡ 0 = ap (λ (xs : List Given). length (filled room at xs .text)) e in
@@ -152,16 +152,16 @@ no-line input at room e some =
 
 -- a piece that is not empty leaves fewer lines
 pub fewer-lines : (input : List ℕ) (at : Place) (room : ℕ) → lineLimit ≤ room → 0 < length (pieceOf input at room .text)
-    → length (linesIn input (pieceOf input at room .next)) < length (linesIn input at)
-fewer-lines input at room h some = go (linesIn input at) refl
+    → length (comingIn input (pieceOf input at room .next)) < length (comingIn input at)
+fewer-lines input at room h some = go (comingIn input at) refl
   where
-    go : (gs : List Given) → linesIn input at ≡ gs → length (linesIn input (pieceOf input at room .next)) < length (linesIn input at)
+    go : (gs : List Given) → comingIn input at ≡ gs → length (comingIn input (pieceOf input at room .next)) < length (comingIn input at)
     go [] e = absurd (no-line input at room e some)
-    go (g ∷ gs) e = rw e (let less = lines-less (linesIn input) (chain (asked input) (drop 2 input)) room at g gs h e in omega (arith, less))
+    go (g ∷ gs) e = rw e (let less = lines-less (comingIn input) (chain (asked input) (drop 2 input)) room at g gs h e in omega (arith, less))
 
 -- the same of what `list_piece` answers
 pub answered-fewer : (input : List ℕ) (at : Place) (buf : List ℕ) (count : ℕ) (next : Place) → lineLimit ≤ length buf
-    → piece.Text count next ≡ pieceAnswered input at buf → 0 < count → length (linesIn input next) < length (linesIn input at)
+    → piece.Text count next ≡ pieceAnswered input at buf → 0 < count → length (comingIn input next) < length (comingIn input at)
 answered-fewer input at buf count next h e some =
     let told : piece.Text count next ≡ textAs (pieceOf input at (length buf)) = e ∙ rw (le-ltb (length buf) lineLimit h) in
     let counts : count ≡ length (pieceOf input at (length buf) .text) = cc in

@@ -5,7 +5,7 @@ use mathlib.Core.List.{List, [], _∷_, _++_}
 use mathlib.Core.Path.{_≡_}
 use lib.Dec.{ltb}
 use lib.ListN.{length}
-use Rattle.fields.specs.Raw.{placed}
+use Rattle.lent.specs.Placed.{placed}
 use Rattle.listing_text.specs.Letters.{letters}
 use Rattle.listing_text.specs.Number.{digit, decimal, hexByte}
 use Rattle.listing_text.specs.Listing.{valueText, textLine}

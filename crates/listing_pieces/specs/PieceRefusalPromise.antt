@@ -4,14 +4,14 @@ use mathlib.Core.Bool.{true, false}
 use mathlib.Core.Path.{_≡_}
 use mathlib.Core.List.{List}
 use lib.ListN.{length}
-use Rattle.frame.specs.Refusal.{noRoom}
-use Rattle.fields.specs.Numbers.{writtenNumber, writtenCount}
+use Rattle.lent.specs.Written.{noRoom}
+use Rattle.lent.specs.Written.{writtenNumber, writtenCount}
 use Rattle.listing_pieces.specs.Text.{textAnswered, textLeft}
 use Rattle.listing_pieces.specs.Pieces.{lineLimit, pieceOf, pieceAnswered, pieceLeft}
 use Rattle.listing_pieces.specs.Numbers.{pieceNumber, pieceCount}
 use Rattle.listing_pieces.specs.declared.piece.Place.{Place}
 
-pub record RefusalPromise : Type 0 where
+pub record PieceRefusalPromise : Type 0 where
   -- a number's text is refused exactly where there is no room for it
   pub text : (buf : List ℕ) (at : ℕ) (bytes : List ℕ) → noRoom buf at (length bytes) .applies ≡ true
       → (writtenNumber (textAnswered buf at bytes) ≡ 9) × (writtenCount (textAnswered buf at bytes) ≡ 0) × (textLeft buf at bytes ≡ buf)

@@ -4,8 +4,8 @@ use mathlib.Core.Bool.{cond}
 use mathlib.Core.List.{List, [], _∷_, _++_}
 use lib.Dec.{ltb}
 use lib.ListN.{length, drop}
-use Rattle.frame.specs.Refusal.{Line, line, ruled}
-use Rattle.fields.specs.Raw.{placed}
+use Rattle.refusals.specs.Rule.{Rule, rule, ruled}
+use Rattle.lent.specs.Placed.{placed}
 use Rattle.frame.specs.Capture.{totalsOf, eventsFrom}
 use Rattle.frame.specs.declared.direction.Direction.{Direction}
 use Rattle.frame.specs.declared.capture.Event.{Event}
@@ -31,27 +31,27 @@ abbrev pub given : List ℕ → Place → Given
 given text next = record { text = text; next = next }
 
 -- the lines yet to come: an event's line, and then the events behind it; the totals are the last
-unfoldable pub eventSteps : Profile → Direction → List ℕ → List Event → List Given
-eventSteps profile dir capture [] = given (totalLine (length capture) (totalsOf dir capture)) place.End ∷ []
-eventSteps profile dir capture (e ∷ es) =
-    given (eventLine profile dir capture e) (place.Event (e .at + e .length)) ∷ eventSteps profile dir capture es
+unfoldable pub comingEvents : Profile → Direction → List ℕ → List Event → List Given
+comingEvents profile dir capture [] = given (totalLine (length capture) (totalsOf dir capture)) place.End ∷ []
+comingEvents profile dir capture (e ∷ es) =
+    given (eventLine profile dir capture e) (place.Event (e .at + e .length)) ∷ comingEvents profile dir capture es
 
-abbrev pub linesFrom : Profile → Direction → List ℕ → Place → List Given
-linesFrom profile dir capture place.Start = given heading (place.Event 0) ∷ eventSteps profile dir capture (eventsFrom dir capture 0)
-linesFrom profile dir capture (place.Event at) = eventSteps profile dir capture (eventsFrom dir capture at)
-linesFrom profile dir capture place.End = []
+abbrev pub comingFrom : Profile → Direction → List ℕ → Place → List Given
+comingFrom profile dir capture place.Start = given heading (place.Event 0) ∷ comingEvents profile dir capture (eventsFrom dir capture 0)
+comingFrom profile dir capture (place.Event at) = comingEvents profile dir capture (eventsFrom dir capture at)
+comingFrom profile dir capture place.End = []
 
-abbrev pub refusedLines : ℕ → Place → List Given
-refusedLines n place.Start = given (refusedText n) place.End ∷ []
-refusedLines n (place.Event at) = []
-refusedLines n place.End = []
+abbrev pub comingRefused : ℕ → Place → List Given
+comingRefused n place.Start = given (refusedText n) place.End ∷ []
+comingRefused n (place.Event at) = []
+comingRefused n place.End = []
 
-abbrev pub linesAs : Asked → List ℕ → Place → List Given
-linesAs (asks.Listing p dir) capture at = linesFrom p dir capture at
-linesAs (asks.Refused n) capture at = refusedLines n at
+abbrev pub comingAs : Asked → List ℕ → Place → List Given
+comingAs (asks.Listing p dir) capture at = comingFrom p dir capture at
+comingAs (asks.Refused n) capture at = comingRefused n at
 
-abbrev pub linesIn : List ℕ → Place → List Given
-linesIn input at = linesAs (asked input) (drop 2 input) at
+abbrev pub comingIn : List ℕ → Place → List Given
+comingIn input at = comingAs (asked input) (drop 2 input) at
 
 -- lines, as long as there is room for any line
 unfoldable pub filled : ℕ → Place → List Given → Given
@@ -61,20 +61,20 @@ filled room at (g ∷ gs) =
 
 -- the next piece of an input's listing
 abbrev pub pieceOf : List ℕ → Place → ℕ → Given
-pieceOf input at room = filled room at (linesIn input at)
+pieceOf input at room = filled room at (comingIn input at)
 
 -- 9: "the lent buffer has too few bytes"
-abbrev pub noLine : List ℕ → Line
-noLine buf = line 9 (ltb (length buf) lineLimit)
+abbrev pub noRoomForLine : List ℕ → Rule
+noRoomForLine buf = rule 9 (ltb (length buf) lineLimit)
 
 abbrev pub textAs : Given → Piece
 textAs g = piece.Text (length (g .text)) (g .next)
 
 abbrev pub pieceAnswered : List ℕ → Place → List ℕ → Piece
-pieceAnswered input at buf = ruled (noLine buf ∷ []) piece.Refused (textAs (pieceOf input at (length buf)))
+pieceAnswered input at buf = ruled (noRoomForLine buf ∷ []) piece.Refused (textAs (pieceOf input at (length buf)))
 
 abbrev pub pieceLeft : List ℕ → Place → List ℕ → List ℕ
-pieceLeft input at buf = ruled (noLine buf ∷ []) (λ n. buf) (placed buf 0 (pieceOf input at (length buf) .text))
+pieceLeft input at buf = ruled (noRoomForLine buf ∷ []) (λ n. buf) (placed buf 0 (pieceOf input at (length buf) .text))
 
 -- all that is yet to come
 unfoldable pub texts : List Given → List ℕ

@@ -2,10 +2,11 @@
 use Prim.Native.Nat.{ℕ}
 use mathlib.Core.List.{List, [], _∷_}
 use lib.ListN.{length}
-use Rattle.frame.specs.Refusal.{ruled, noRoom}
-use Rattle.fields.specs.Raw.{placed}
-use Rattle.fields.specs.declared.raw.Written.{Written}
-use Rattle.fields.specs.declared.raw.Written.the-variants.{Bytes, Refused}
+use Rattle.refusals.specs.Rule.{ruled}
+use Rattle.lent.specs.Written.{noRoom}
+use Rattle.lent.specs.Placed.{placed}
+use Rattle.lent.specs.declared.written.Written.{Written}
+use Rattle.lent.specs.declared.written.Written.the-variants.{Bytes, Refused}
 
 -- 9, or how many bytes it is; and the buffer after it
 abbrev pub textAnswered : List ℕ → ℕ → List ℕ → Written

@@ -1,7 +1,7 @@
 use crate::put::places_of;
 use crate::put::put_hex;
 use crate::put::put_places;
-use fields::raw::Written;
+use lent::written::Written;
 ghost use mathlib.Core.Path.{_≡_};
 ghost use Rattle.listing_text.specs.Number.{decimal, hexByte};
 ghost use Rattle.listing_pieces.specs.Text.{textAnswered, textLeft};

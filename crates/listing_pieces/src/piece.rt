@@ -17,10 +17,10 @@ ghost use mathlib.Core.List.{_++_};
 ghost use Prim.Native.Nat.{_+_, _^_, _≤_, _<_};
 ghost use lib.ListN.{length};
 ghost use Rattle.frame.specs.Capture.{captureLimit, eventsFrom, totalsOf};
-ghost use Rattle.fields.specs.Raw.{placed};
+ghost use Rattle.lent.specs.Placed.{placed};
 ghost use Rattle.listing_text.specs.Number.{decimal};
 ghost use Rattle.listing_text.specs.Listing.{totalLine};
-ghost use Rattle.listing_pieces.specs.Pieces.{lineLimit, eventSteps, linesFrom, refusedLines, filled, textAs, pieceAnswered, pieceLeft};
+ghost use Rattle.listing_pieces.specs.Pieces.{lineLimit, comingEvents, comingFrom, comingRefused, filled, textAs, pieceAnswered, pieceLeft};
 ghost use Rattle.listing_pieces.specs.Computed.{Put, firstText, firstNext, isEnd};
 ghost use Rattle.listing_pieces.specs.declared.piece.Place.the-variants as place;
 
@@ -66,7 +66,7 @@ pub fn list_piece(input: &[u8], place: Place, buf: &mut [u8]) -> Piece
 // Refused input has one line.
 fn list_refusal(number: u8, place: Place, buf: &mut [u8]) -> Piece
     requires { ⌜ lineLimit ≤ length (now buf) ⌝ }
-    ensures { λ r. ⌜ (r ≡ textAs (filled (length (now (buf .entry))) place (refusedLines number place))) × (now (buf .exit) ≡ placed (now (buf .entry)) 0 (filled (length (now (buf .entry))) place (refusedLines number place) .text)) ⌝ }
+    ensures { λ r. ⌜ (r ≡ textAs (filled (length (now (buf .entry))) place (comingRefused number place))) × (now (buf .exit) ≡ placed (now (buf .entry)) 0 (filled (length (now (buf .entry))) place (comingRefused number place) .text)) ⌝ }
 {
     match place {
         Place::Start => {
@@ -88,7 +88,7 @@ fn list_lines(
     buf: &mut [u8],
 ) -> Piece
     requires { ⌜ (lineLimit ≤ length (now buf)) × (length (now capture) ≤ captureLimit) ⌝ }
-    ensures { λ r. ⌜ (r ≡ textAs (filled (length (now (buf .entry))) place (linesFrom profile direction (now (capture .entry)) place))) × (now (buf .exit) ≡ placed (now (buf .entry)) 0 (filled (length (now (buf .entry))) place (linesFrom profile direction (now (capture .entry)) place) .text)) ⌝ }
+    ensures { λ r. ⌜ (r ≡ textAs (filled (length (now (buf .entry))) place (comingFrom profile direction (now (capture .entry)) place))) × (now (buf .exit) ≡ placed (now (buf .entry)) 0 (filled (length (now (buf .entry))) place (comingFrom profile direction (now (capture .entry)) place) .text)) ⌝ }
 {
     let mut at = 0;
     let mut next = place;
@@ -125,7 +125,7 @@ fn put_next(
     at: usize,
 ) -> Turn
     requires { ⌜ (at + lineLimit ≤ length (now buf)) × (length (now capture) ≤ captureLimit) ⌝ }
-    ensures { λ r. ⌜ (Put lineLimit (now (buf .entry)) at (firstText (linesFrom profile direction (now (capture .entry)) next)) (now (buf .exit)) (r .at)) × (r .next ≡ firstNext next (linesFrom profile direction (now (capture .entry)) next)) ⌝ }
+    ensures { λ r. ⌜ (Put lineLimit (now (buf .entry)) at (firstText (comingFrom profile direction (now (capture .entry)) next)) (now (buf .exit)) (r .at)) × (r .next ≡ firstNext next (comingFrom profile direction (now (capture .entry)) next)) ⌝ }
 {
     match next {
         Place::Start => {
@@ -153,7 +153,7 @@ fn put_from(
     at: usize,
 ) -> Turn
     requires { ⌜ (at + lineLimit ≤ length (now buf)) × (length (now capture) ≤ captureLimit) ⌝ }
-    ensures { λ r. ⌜ (Put lineLimit (now (buf .entry)) at (firstText (eventSteps profile direction (now (capture .entry)) (eventsFrom direction (now (capture .entry)) from))) (now (buf .exit)) (r .at)) × (r .next ≡ firstNext (place.Event from) (eventSteps profile direction (now (capture .entry)) (eventsFrom direction (now (capture .entry)) from))) ⌝ }
+    ensures { λ r. ⌜ (Put lineLimit (now (buf .entry)) at (firstText (comingEvents profile direction (now (capture .entry)) (eventsFrom direction (now (capture .entry)) from))) (now (buf .exit)) (r .at)) × (r .next ≡ firstNext (place.Event from) (comingEvents profile direction (now (capture .entry)) (eventsFrom direction (now (capture .entry)) from))) ⌝ }
 {
     let found = next_event(direction, capture, from);
     let Next::Event(event) = found else {

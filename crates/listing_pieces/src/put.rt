@@ -3,7 +3,7 @@ ghost use mathlib.Core.Path.{_≡_};
 ghost use Prim.Native.Nat.{_+_, _≤_, _<_};
 ghost use lib.IntN.{natAbs};
 ghost use lib.ListN.{length};
-ghost use Rattle.fields.specs.Raw.{placed};
+ghost use Rattle.lent.specs.Placed.{placed};
 ghost use Rattle.listing_text.specs.Number.{decimal, hexDigit, hexByte};
 ghost use Rattle.listing_text.specs.Listing.{integer};
 ghost use Rattle.listing_pieces.specs.Computed.{places, lastDigits, Put};

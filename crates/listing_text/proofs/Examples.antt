@@ -5,7 +5,8 @@ use Prim.Native.Nat.{ℕ}
 use Rattle.frame.specs.Reader.{answerTo, takenAfter, answers, takenBy}
 use Rattle.frame.specs.Capture.{settled, labels, count, eventsTold, eventsFrom}
 use Rattle.frame.specs.Letter.{directionOf}
-use Rattle.fields.specs.Fields.{isFrame, bytesAt}
+use Rattle.fields.specs.Fields.{isFrame}
+use Rattle.lent.specs.Placed.{bytesAt}
 use Rattle.row.specs.Profile.{profileOf}
 use Rattle.row.specs.Signed.{numberOf}
 use Rattle.row.specs.Table.{table, firstRow}

@@ -2,8 +2,8 @@
 use mathlib.Core.Path.{_≡_}
 use mathlib.Core.List.{List}
 use Prim.Native.Nat.{ℕ}
-use Rattle.frame.specs.OneAnswer.{OneAnswer}
-use Rattle.fields.proofs.OneAnswer.{one}
+use Rattle.refusals.specs.OneAnswer.{OneAnswer}
+use Rattle.refusals.proofs.One.{one}
 use Rattle.listing_text.specs.Listing.{asked}
 use Rattle.listing_text.specs.declared.asked.Asked.{Asked}
 

@@ -6,10 +6,10 @@ use mathlib.Core.List.{List, [], _∷_, _++_}
 use lib.Dec.{ltb}
 use lib.IntN.{ℤ, pos, negsuc}
 use lib.ListN.{length, drop}
-use Rattle.frame.specs.Refusal.{line, ruled}
+use Rattle.refusals.specs.Rule.{rule, ruled}
 use Rattle.frame.specs.Letter.{directionOf}
 use Rattle.frame.specs.Capture.{captureLimit, totalsOf, eventsFrom}
-use Rattle.fields.specs.Fields.{bytesAt}
+use Rattle.lent.specs.Placed.{bytesAt}
 use Rattle.frame.specs.declared.direction.Direction.{Direction}
 use Rattle.frame.specs.declared.direction.Named as direction
 use Rattle.frame.specs.declared.direction.Named.the-variants as directed
@@ -106,7 +106,7 @@ refusedText n = textLine (letters "refused") (decimal n ∷ [])
 
 -- what an input asks for: "Order: 12, then 11, before all others."
 abbrev pub askedBy : profile.Named → direction.Named → ℕ → Asked
-askedBy (family.Profile p) (directed.Direction dir) count = ruled (line 11 (ltb captureLimit count) ∷ []) asks.Refused (asks.Listing p dir)
+askedBy (family.Profile p) (directed.Direction dir) count = ruled (rule 11 (ltb captureLimit count) ∷ []) asks.Refused (asks.Listing p dir)
 askedBy (family.Profile p) (directed.Refused n) count = asks.Refused n
 askedBy (family.Refused n) named count = asks.Refused n
 

@@ -2,7 +2,8 @@
 use mathlib.Core.Path.{refl}
 use Rattle.frame.specs.Reader.{answerTo, takenAfter, answers, takenBy}
 use Rattle.frame.specs.Capture.{eventsTold, eventsFrom}
-use Rattle.fields.specs.Fields.{isFrame, bytesAt}
+use Rattle.fields.specs.Fields.{isFrame}
+use Rattle.lent.specs.Placed.{bytesAt}
 use Rattle.row.specs.Table.{table, firstRow}
 use Rattle.row.specs.Signed.{numberOf}
 use Rattle.message.specs.Content.{contentOf}

@@ -4,16 +4,16 @@ use mathlib.Core.List.{List}
 use Prim.Native.Nat.{ℕ}
 use lib.IntN.{ℤ}
 use Rattle.fields.specs.Fields.{dataOf}
-use Rattle.frame.specs.OneAnswer.{OneAnswer}
+use Rattle.refusals.specs.OneAnswer.{OneAnswer}
 use Rattle.frame.specs.declared.direction.Direction.{Direction}
-use Rattle.fields.specs.declared.raw.Written.{Written}
-use Rattle.fields.proofs.OneAnswer.{one, one-lent}
+use Rattle.lent.specs.declared.written.Written.{Written}
+use Rattle.refusals.proofs.One.{one, one-lent}
 use Rattle.row.specs.Profile.{profileOf, letterOf, zonesOf}
 use Rattle.row.specs.Table.{rowOf}
 use Rattle.row.specs.Signed.{numberOf, codeOf, plainCodeOf}
 use Rattle.row.specs.declared.profile.Profile.{Profile}
 use Rattle.row.specs.declared.table.Row.{Row}
-use Rattle.judging.specs.Judge.{isSetting, isAnswer, isWord, lengthOf, rowJudged, judgedOf}
+use Rattle.judging.specs.Judge.{isSetting, isAnswer, isWord, hasLength, rowJudged, judgedOf}
 use Rattle.message.specs.Message.{readOf, frameRead, deniedIn}
 use Rattle.message.specs.Write.{messageAnswered, messageLeft, fieldsAnswered, fieldsLeft}
 use Rattle.message.specs.declared.read.Message.{Message}
@@ -76,5 +76,5 @@ is-answer-one row code = one (isAnswer row code)
 pub is-word-one : (row : Row) (byte : ℕ) → OneAnswer (λ x. x ≡ isWord row byte)
 is-word-one row byte = one (isWord row byte)
 
-pub length-fits-one : (direction : Direction) (row : Row) (length : ℕ) → OneAnswer (λ x. x ≡ lengthOf direction row length)
-length-fits-one direction row length = one (lengthOf direction row length)
+pub length-fits-one : (direction : Direction) (row : Row) (length : ℕ) → OneAnswer (λ x. x ≡ hasLength direction row length)
+length-fits-one direction row length = one (hasLength direction row length)

@@ -5,16 +5,16 @@ use mathlib.Core.List.{List, []}
 use Prim.Native.Nat.{ℕ, _<_}
 use native.Mathlib.Omega.{arith}
 use lib.ListN.{length}
-use Rattle.frame.specs.Refusal.{Line, ruled}
+use Rattle.refusals.specs.Rule.{Rule, ruled}
 use Rattle.fields.specs.Fields.{isFrame, fieldsIn, dataIn, fieldsOf, dataOf}
 use Rattle.frame.specs.declared.direction.Direction.{Direction}
 use Rattle.fields.specs.declared.fields.Fields.{Fields}
 use Rattle.fields.specs.declared.fields.Brought.the-variants as brought
-use Rattle.frame.proofs.Ruled.{firstNumber, was-refused, was-accepted, refused-with, accepted-by}
+use Rattle.refusals.proofs.Ruled.{firstNumber, was-refused, was-accepted, refused-with, accepted-by}
 use Rattle.row.specs.Table.{rowOf}
 use Rattle.row.specs.declared.profile.Profile.{Profile}
 use Rattle.row.specs.declared.table.Row.{Row}
-use Rattle.judging.specs.Judge.{rowIn, judgeLines, judgedOf}
+use Rattle.judging.specs.Judge.{rowIn, judgeRules, judgedOf}
 use Rattle.message.specs.Content.{contentOf}
 use Rattle.message.specs.Message.{said, readOf, fromReading, frameRead, deniedIn}
 use Rattle.message.specs.Computed.{saidRead, isDenied}
@@ -32,8 +32,8 @@ said-differs : (s : Said) (n : ℕ) → sayings.Said s ≡ sayings.Refused n →
 said-differs s n e = let z : _≡_ {A = ℕ} 0 1 = cc in omega arith
 
 module _ (profile : Profile) (dir : Direction) (zone command : ℕ) (body : List ℕ) where
-  abbrev lines : List Line
-  lines = judgeLines profile dir zone command body
+  abbrev lines : List Rule
+  lines = judgeRules profile dir zone command body
 
   abbrev there : Row
   there = rowIn (rowOf profile command)

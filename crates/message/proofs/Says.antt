@@ -11,7 +11,7 @@ use Rattle.frame.specs.declared.direction.Direction.{Direction}
 use Rattle.frame.specs.declared.direction.Direction.the-variants.{Command, Answer}
 use Rattle.frame.proofs.Cases.{cases}
 use Rattle.row.specs.declared.table.Row.{Row}
-use Rattle.judging.specs.Judge.{isAnswer, isWord, lengthOf, byteOf}
+use Rattle.judging.specs.Judge.{isAnswer, isWord, hasLength, hasByte}
 use Rattle.message.specs.Content.{wordOf, isOff, numberIn, valueContent, byteContent, contentOf, encodedOf, encodedData, valueByte, isForm}
 use Rattle.message.specs.FormPromise.{LegalData}
 use Rattle.message.specs.declared.content.Content.{Content}
@@ -60,11 +60,11 @@ module _ (row : Row) where
           let code = number-coded (row .signed) b (tidy .byte b v) (tidy .no-minus-zero b v) in
           (rw (code, v, e), rw code)
 
-  byte-says : (dir : Direction) → Tidy dir row → (b : ℕ) → byteOf dir row b ≡ true → Says dir row (b ∷ []) (byteContent dir row b)
+  byte-says : (dir : Direction) → Tidy dir row → (b : ℕ) → hasByte dir row b ≡ true → Says dir row (b ∷ []) (byteContent dir row b)
   byte-says Command tidy b e = cases (Says Command row (b ∷ [])) (isWord row b) (word-says b) (λ f. value-says Command tidy b (former _ _ e f))
   byte-says Answer tidy b e = value-says Answer tidy b e
 
-  no-longer : (dir : Direction) (n : ℕ) → lengthOf dir row (suc (suc (suc n))) ≡ false
+  no-longer : (dir : Direction) (n : ℕ) → hasLength dir row (suc (suc (suc n))) ≡ false
   no-longer dir n = rw (ne-eqb (suc (suc (suc n))) 2 (λ e. omega arith), ne-eqb (suc (suc (suc n))) 1 (λ e. omega arith))
 
   pub data-says : (dir : Direction) → Tidy dir row → (body : List ℕ) → LegalData dir row body → Says dir row body (contentOf dir row body)

@@ -7,18 +7,20 @@ use native.Mathlib.Omega.{arith}
 use borrow.Author.Tests.{ltb-false, le-ltb, not-false, eqb-true}
 use lib.Dec.{eqb, ltb}
 use lib.ListN.{length}
-use Rattle.frame.specs.Refusal.{Line, line, noRoom}
+use Rattle.refusals.specs.Rule.{Rule, rule}
 use Rattle.frame.specs.Frame.{frameOf}
-use Rattle.fields.specs.Raw.{placed, tooLong}
-use Rattle.fields.specs.Fields.{isFrame, fieldsIn, dataIn, dataOf, answerKept, bytesAt}
+use Rattle.lent.specs.Placed.{placed}
+use Rattle.fields.specs.Raw.{tooLong}
+use Rattle.fields.specs.Fields.{isFrame, fieldsIn, dataIn, dataOf, answerKept}
+use Rattle.lent.specs.Placed.{bytesAt}
 use Rattle.frame.specs.Capture.{event, eventsFrom, firstOf}
 use Rattle.frame.specs.declared.direction.Direction.{Direction}
 use Rattle.fields.specs.declared.fields.Fields.{Fields}
 use Rattle.frame.specs.declared.capture.Kind.the-variants as kind
 use Rattle.frame.specs.declared.capture.Next.the-variants as next
 use Rattle.frame.specs.declared.direction.Direction.the-variants.{Command, Answer}
-use Rattle.fields.specs.declared.raw.Written.the-variants as written
-use Rattle.frame.proofs.Ruled.{refuses, was-accepted, accepted-by, pass-first, pass-both, pass-append, append-pass}
+use Rattle.lent.specs.declared.written.Written.the-variants as written
+use Rattle.refusals.proofs.Ruled.{refuses, was-accepted, accepted-by, pass-first, pass-both, pass-append, append-pass}
 use Rattle.fields.proofs.Back.{frame-promise, placed-found, placed-bytes}
 use Rattle.fields.proofs.Again.{frame-again}
 use Rattle.row.specs.Table.{rowOf}
@@ -26,10 +28,12 @@ use Rattle.row.specs.declared.profile.Profile.{Profile}
 use Rattle.row.specs.declared.table.Row.{Row}
 use Rattle.row.specs.declared.table.Found.{Found}
 use Rattle.row.specs.declared.table.Found.the-variants as found
-use Rattle.judging.specs.Judge.{isMissing, rowIn, profileZone, noRow, rowZone, wrongLength, wrongValue, rowLines, judgeLines}
+use Rattle.judging.specs.Judge.{isMissing, rowIn, profileZone, noRow, rowZone, wrongLength, wrongValue, rowRules, judgeRules}
 use Rattle.message.specs.Content as content
-use Rattle.message.specs.Message.{isDenial, wrongCode, said, denial, readLines, messageOf, readOf, deniedData, fromReading, frameRead}
-use Rattle.message.specs.Write.{saidLines, saidData, notDenied, messageDirection, writeLines, messageFrame, writeAnswered, writeLeft, messageAnswered, messageLeft}
+use Rattle.message.specs.Message.{isDenial, wrongCode, said, denial, readRules, messageOf, readOf, deniedData, fromReading, frameRead}
+use Rattle.message.specs.Write.{saidRules, saidData, notDenied, messageDirection, writeRules, messageFrame, messageAnswered, messageLeft}
+use Rattle.lent.specs.Written.{writeAnswered, writeLeft}
+use Rattle.lent.proofs.Writes.{write-promise, write-passed, write-fits}
 use Rattle.message.specs.Numbers.{Paper, messagePaper}
 use Rattle.message.specs.MessageRefusalPromise.{codeOn}
 use Rattle.message.specs.MessagePromise.{ReadsAs, MessagePromise}
@@ -75,19 +79,19 @@ module _ (profile : Profile) (dir : Direction) (zone command : ℕ) where
   there = rowIn (rowOf profile command)
 
   -- the lines after the first three
-  module _ (l v : Line) where
-    abbrev five : List Line
+  module _ (l v : Rule) where
+    abbrev five : List Rule
     five = profileZone profile zone ∷ noRow profile command ∷ rowZone there zone ∷ l ∷ v ∷ []
 
     record Five : Type 0 where
-      zones : refuses (rowLines profile zone command) ≡ false
+      zones : refuses (rowRules profile zone command) ≡ false
       row : isMissing (rowOf profile command) ≡ false
       long : l .applies ≡ false
       value : v .applies ≡ false
 
     parts : refuses five ≡ false → Five
     parts e =
-        let both = pass-append (rowLines profile zone command) (l ∷ v ∷ []) e in
+        let both = pass-append (rowRules profile zone command) (l ∷ v ∷ []) e in
         let rest = pass-first (profileZone profile zone) (noRow profile command ∷ rowZone there zone ∷ []) (both .0) .1 in
         let four = pass-first l (v ∷ []) (both .1) in
         record {
@@ -97,68 +101,28 @@ module _ (profile : Profile) (dir : Direction) (zone command : ℕ) where
           value = pass-first v [] (four .1) .0;
         }
 
-  together : (l v : Line) → refuses (rowLines profile zone command) ≡ false → l .applies ≡ false → v .applies ≡ false
+  together : (l v : Rule) → refuses (rowRules profile zone command) ≡ false → l .applies ≡ false → v .applies ≡ false
       → refuses (five l v) ≡ false
-  together l v e f g = append-pass (rowLines profile zone command) (l ∷ v ∷ []) e (pass-both l (v ∷ []) f (pass-both v [] g refl))
+  together l v e f g = append-pass (rowRules profile zone command) (l ∷ v ∷ []) e (pass-both l (v ∷ []) f (pass-both v [] g refl))
 
   -- what is said has data that are judged legal, and say it
-  pub say-judge : (c : Content) → refuses (saidLines profile dir zone command c) ≡ false
-      → (refuses (judgeLines profile dir zone command (saidData profile command c)) ≡ false) × (content.contentOf dir there (saidData profile command c) ≡ c)
+  pub say-judge : (c : Content) → refuses (saidRules profile dir zone command c) ≡ false
+      → (refuses (judgeRules profile dir zone command (saidData profile command c)) ≡ false) × (content.contentOf dir there (saidData profile command c) ≡ c)
   say-judge c e =
-      let p = parts (wrongLength dir there (content.sizeOf c)) (line 4 (not (content.isForm dir there c))) e in
+      let p = parts (wrongLength dir there (content.sizeOf c)) (rule 4 (not (content.isForm dir there c))) e in
       let w = form-promise .written profile command there dir c (found-there (rowOf profile command) (p .row)) (not-false _ (p .value)) (not-false _ (p .long)) in
       let body = saidData profile command c in
       (together (wrongLength dir there (length body)) (wrongValue dir there body) (p .zones) (rw (w .0 .long)) (rw (w .0 .value)), w .2)
 
   -- data that are judged legal say something whose data they are
-  pub judge-say : (body : List ℕ) → refuses (judgeLines profile dir zone command body) ≡ false
-      → (refuses (saidLines profile dir zone command (content.contentOf dir there body)) ≡ false) × (saidData profile command (content.contentOf dir there body) ≡ body)
+  pub judge-say : (body : List ℕ) → refuses (judgeRules profile dir zone command body) ≡ false
+      → (refuses (saidRules profile dir zone command (content.contentOf dir there body)) ≡ false) × (saidData profile command (content.contentOf dir there body) ≡ body)
   judge-say body e =
       let p = parts (wrongLength dir there (length body)) (wrongValue dir there body) e in
       let c = content.contentOf dir there body in
       let r = form-promise .read profile command there dir body (found-there (rowOf profile command) (p .row)) (record { long = not-false _ (p .long); value = not-false _ (p .value) }) in
       let size : length body ≡ content.sizeOf c = ap length (sym (r .1)) ∙ form-size dir there c (r .0) in
-      (together (wrongLength dir there (content.sizeOf c)) (line 4 (not (content.isForm dir there c))) (p .zones) (rw (← size) (p .long)) (rw (r .0)), r .1)
-
--- a write that was accepted: its lines passed, there was room, and the bytes stand at the place; and the reverse
-module _ (lines : List Line) (buf : List ℕ) (at : ℕ) (bytes : List ℕ) where
-  bytes-differ : (n k : ℕ) → written.Refused k ≡ written.Bytes n → ⊥
-  bytes-differ n k e = let z : _≡_ {A = ℕ} 0 1 = cc in omega arith
-
-  abbrev all : List Line
-  all = lines ++ noRoom buf at (length bytes) ∷ []
-
-  record Accepted (n : ℕ) : Type 0 where
-    passed : refuses lines ≡ false
-    room : at + length bytes ≤ length buf
-    long : n ≡ length bytes
-    left : writeLeft lines buf at bytes ≡ placed buf at bytes
-
-  accepted-write : (n : ℕ) → writeAnswered lines buf at bytes ≡ written.Bytes n → Accepted n
-  unfolding writeAnswered writeLeft
-  accepted-write n e =
-      let w = was-accepted all written.Refused (written.Bytes (length bytes)) (written.Bytes n) e (bytes-differ n) in
-      let p = pass-append lines (noRoom buf at (length bytes) ∷ []) (w .0) in
-      let room = go (ltb (length buf) at) (ltb (length buf - at) (length bytes)) refl refl (pass-first (noRoom buf at (length bytes)) [] (p .1) .0) in
-      record { passed = p .0; room = room; long = same (w .1); left = accepted-by all (λ m. buf) (placed buf at bytes) (w .0) }
-    where
-      same : written.Bytes (length bytes) ≡ written.Bytes n → n ≡ length bytes
-      same f = cc
-
-      go : (t u : Bool) → ltb (length buf) at ≡ t → ltb (length buf - at) (length bytes) ≡ u → t || u ≡ false → at + length bytes ≤ length buf
-      go true u g h k = let z : _≡_ {A = ℕ} 0 1 = cc in absurd (omega arith)
-      go false true g h k = let z : _≡_ {A = ℕ} 0 1 = cc in absurd (omega arith)
-      go false false g h k = omega (arith, ltb-false (length buf) at g, ltb-false (length buf - at) (length bytes) h)
-
-  write-accepted : refuses lines ≡ false → at + length bytes ≤ length buf
-      → (writeAnswered lines buf at bytes ≡ written.Bytes (length bytes)) × (writeLeft lines buf at bytes ≡ placed buf at bytes)
-  unfolding writeAnswered writeLeft
-  write-accepted e room =
-      let within : at ≤ length buf = omega arith in
-      let enough : length bytes ≤ length buf - at = omega arith in
-      let last : noRoom buf at (length bytes) .applies ≡ false = rw (le-ltb (length buf) at within, le-ltb (length buf - at) (length bytes) enough) in
-      let pass = append-pass lines (noRoom buf at (length bytes) ∷ []) e (pass-both (noRoom buf at (length bytes)) [] last refl) in
-      (accepted-by all written.Refused _ pass, accepted-by all (λ m. buf) _ pass)
+      (together (wrongLength dir there (content.sizeOf c)) (rule 4 (not (content.isForm dir there c))) (p .zones) (rw (← size) (p .long)) (rw (r .0)), r .1)
 
 -- a frame of fields and data, read
 frame-reads : (profile : Profile) (dir : Direction) (zone command ac : ℕ) (body : List ℕ)
@@ -169,16 +133,16 @@ frame-reads profile dir zone command ac body =
     ∙ ap (λ (l : List ℕ). fromReading (readOf profile dir zone command (answerKept dir ac) l)) (b .load)
 
 -- what passes is read as the message it is
-read-passed : (profile : Profile) (dir : Direction) (zone command ac : ℕ) (body : List ℕ) → refuses (readLines profile dir zone command ac body) ≡ false
+read-passed : (profile : Profile) (dir : Direction) (zone command ac : ℕ) (body : List ℕ) → refuses (readRules profile dir zone command ac body) ≡ false
     → readOf profile dir zone command ac body ≡ reading.Message (messageOf profile dir zone command ac body)
 unfolding readOf
-read-passed profile dir zone command ac body e = accepted-by (readLines profile dir zone command ac body) reading.Refused _ e
+read-passed profile dir zone command ac body e = accepted-by (readRules profile dir zone command ac body) reading.Refused _ e
 
 denied-lines : (ac : ℕ) (body : List ℕ) → refuses (notDenied ac ∷ tooLong body ∷ []) ≡ false → (isDenial ac ≡ true) × (refuses (tooLong body ∷ []) ≡ false)
 denied-lines ac body e = let p = pass-first (notDenied ac) (tooLong body ∷ []) e in (not-false _ (p .0), p .1)
 
 module _ (profile : Profile) where
-  reads : (m : Message) (body : List ℕ) → refuses (writeLines profile m body) ≡ false → frameRead profile (messageDirection m) (messageFrame profile m body) ≡ frame.Message m
+  reads : (m : Message) (body : List ℕ) → refuses (writeRules profile m body) ≡ false → frameRead profile (messageDirection m) (messageFrame profile m body) ≡ frame.Message m
   reads (message.Command s) body e =
       let j = say-judge profile Command (s .zone) (s .command) (s .content) e in
       let d = saidData profile (s .command) (s .content) in
@@ -219,22 +183,22 @@ module _ (profile : Profile) where
     abbrev bytes : List ℕ
     bytes = messageFrame profile m body
 
-    taken : Accepted (writeLines profile m body) buf at bytes n
-    unfolding messageAnswered
-    taken = accepted-write (writeLines profile m body) buf at bytes n e
+    put-there : (n ≡ length bytes) × (at + length bytes ≤ length buf) × (messageLeft profile buf at m body ≡ placed buf at bytes)
+    unfolding messageAnswered messageLeft
+    put-there = let w = write-promise (writeRules profile m body) buf at bytes .there n e in (w .0, rw (← w .0) (w .1), w .2)
 
-    left-is : messageLeft profile buf at m body ≡ placed buf at bytes
-    unfolding messageLeft
-    left-is = taken .left
+    passed : refuses (writeRules profile m body) ≡ false
+    unfolding messageAnswered
+    passed = write-passed (writeRules profile m body) buf at bytes n e
 
     found-again : firstOf (eventsFrom (messageDirection m) (messageLeft profile buf at m body) at) ≡ next.Event (event at n kind.Frame)
-    found-again = rw (left-is, taken .long) (stands m body buf at (taken .room) .0)
+    found-again = rw (put-there .2, put-there .0) (stands m body buf at (put-there .1) .0)
 
     reads-again : ReadsAs profile (messageDirection m) (bytesAt (messageLeft profile buf at m body) at n) m body
     reads-again =
         subst (λ (l : List ℕ). ReadsAs profile (messageDirection m) l m body)
-        (sym (ap (λ (l : List ℕ). bytesAt l at n) left-is ∙ ap (λ (k : ℕ). bytesAt (placed buf at bytes) at k) (taken .long) ∙ stands m body buf at (taken .room) .1))
-        (record { message = reads m body (taken .passed); load = loads m body })
+        (sym (ap (λ (l : List ℕ). bytesAt l at n) (put-there .2) ∙ ap (λ (k : ℕ). bytesAt (placed buf at bytes) at k) (put-there .0) ∙ stands m body buf at (put-there .1) .1))
+        (record { message = reads m body passed; load = loads m body })
 
 abbrev paperOf : ℕ → ℕ → ℕ → List ℕ → Paper
 paperOf zone command code body = record { zone = zone; command = command; answer = code; body = body }
@@ -242,11 +206,11 @@ paperOf zone command code body = record { zone = zone; command = command; answer
 -- what is read as a message, written again
 record Again (profile : Profile) (dir : Direction) (zone command ac : ℕ) (body : List ℕ) (m : Message) : Type 0 where
   way : messageDirection m ≡ dir
-  lines : refuses (writeLines profile m body) ≡ false
+  lines : refuses (writeRules profile m body) ≡ false
   frame : messageFrame profile m body ≡ frameOf dir zone command ac body
   paper : messagePaper profile m body ≡ paperOf zone command (codeOn dir ac) body
 
-again-of : (profile : Profile) (dir : Direction) (zone command ac : ℕ) (body : List ℕ) → refuses (readLines profile dir zone command ac body) ≡ false
+again-of : (profile : Profile) (dir : Direction) (zone command ac : ℕ) (body : List ℕ) → refuses (readRules profile dir zone command ac body) ≡ false
     → Again profile dir zone command ac body (messageOf profile dir zone command ac body)
 unfolding frameOf
 again-of profile Command zone command ac body e =
@@ -257,13 +221,13 @@ again-of profile Command zone command ac body e =
       frame = ap (λ (l : List ℕ). frameOf Command zone command ac l) (j .1);
       paper = ap (λ (l : List ℕ). paperOf zone command 0 l) (j .1);
     }
-again-of profile Answer zone command ac body e = go (isDenial ac) refl (pass-first (wrongCode ac) (cond (isDenial ac) (tooLong body ∷ []) (judgeLines profile Answer zone command body)) e)
+again-of profile Answer zone command ac body e = go (isDenial ac) refl (pass-first (wrongCode ac) (cond (isDenial ac) (tooLong body ∷ []) (judgeRules profile Answer zone command body)) e)
   where
     zero-code : (t : Bool) → not (t || false) ≡ false → t ≡ true
     zero-code true f = refl
     zero-code false f = cc
 
-    go : (t : Bool) → isDenial ac ≡ t → (not (eqb ac 0x00 || isDenial ac) ≡ false) × (refuses (cond t (tooLong body ∷ []) (judgeLines profile Answer zone command body)) ≡ false)
+    go : (t : Bool) → isDenial ac ≡ t → (not (eqb ac 0x00 || isDenial ac) ≡ false) × (refuses (cond t (tooLong body ∷ []) (judgeRules profile Answer zone command body)) ≡ false)
         → Again profile Answer zone command ac body (cond t (message.Denied (denial zone command ac)) (message.Status (said profile Answer zone command body)))
     go true d p = record { way = refl; lines = pass-both (notDenied ac) (tooLong body ∷ []) (rw d) (p .1); frame = refl; paper = refl }
     go false d p =
@@ -282,7 +246,7 @@ pub paper-of : (profile : Profile) (dir : Direction) (zone command ac : ℕ) (bo
 unfolding readOf
 paper-of profile dir zone command ac body m e =
     let w =
-    was-accepted (readLines profile dir zone command ac body) reading.Refused (reading.Message (messageOf profile dir zone command ac body)) (reading.Message m) e (differ m) in
+    was-accepted (readRules profile dir zone command ac body) reading.Refused (reading.Message (messageOf profile dir zone command ac body)) (reading.Message m) e (differ m) in
     ap (λ (k : Message). messagePaper profile k body) (sym (same (messageOf profile dir zone command ac body) m (w .1))) ∙ again-of profile dir zone command ac body (w .0) .paper
   where
     differ : (k : Message) (n : ℕ) → reading.Refused n ≡ reading.Message k → ⊥
@@ -315,7 +279,7 @@ module _ (profile : Profile) (dir : Direction) (bytes : List ℕ) (m : Message) 
   goes : Again profile dir (f .zone) (f .command) (f .answer) body m
   unfolding readOf
   goes =
-      let lines = readLines profile dir (f .zone) (f .command) (f .answer) body in
+      let lines = readRules profile dir (f .zone) (f .command) (f .answer) body in
       let w = was-accepted lines reading.Refused _ (reading.Message m) (whole .1) (λ k g. differs k g) in
       subst (λ (x : Message). Again profile dir (f .zone) (f .command) (f .answer) body x) (same (w .1)) (again-of profile dir (f .zone) (f .command) (f .answer) body (w .0))
     where
@@ -332,9 +296,9 @@ module _ (profile : Profile) (dir : Direction) (bytes : List ℕ) (m : Message) 
   bytes-are = goes .frame ∙ sym (frame-again dir bytes (whole .0))
 
   module _ (buf : List ℕ) (at : ℕ) (room : at + length bytes ≤ length buf) where
-    put : (writeAnswered (writeLines profile m body) buf at (messageFrame profile m body) ≡ written.Bytes (length (messageFrame profile m body)))
-        × (writeLeft (writeLines profile m body) buf at (messageFrame profile m body) ≡ placed buf at (messageFrame profile m body))
-    put = write-accepted (writeLines profile m body) buf at (messageFrame profile m body) (goes .lines) (rw bytes-are room)
+    put : (writeAnswered (writeRules profile m body) buf at (messageFrame profile m body) ≡ written.Bytes (length (messageFrame profile m body)))
+        × (writeLeft (writeRules profile m body) buf at (messageFrame profile m body) ≡ placed buf at (messageFrame profile m body))
+    put = write-fits (writeRules profile m body) buf at (messageFrame profile m body) (goes .lines) (rw bytes-are room)
 
     said-again : messageAnswered profile buf at m (dataOf dir bytes) ≡ written.Bytes (length bytes)
     unfolding messageAnswered

@@ -10,7 +10,7 @@ use Rattle.frame.specs.declared.direction.Direction.the-variants.{Command, Answ
 use Rattle.row.specs.Table.{table, firstRow}
 use Rattle.row.specs.declared.profile.Profile.the-variants.{A, S}
 use Rattle.row.specs.declared.table.Row.{Row}
-use Rattle.judging.specs.Judge.{lengthOf, valueOf, judgedOf}
+use Rattle.judging.specs.Judge.{hasLength, hasValue, judgedOf}
 use Rattle.judging.specs.declared.judge.Judged.{Judged}
 use Rattle.judging.specs.declared.judge.Judged.the-variants.{Legal}
 use Rattle.message.proofs.Tidy.{every}
@@ -21,7 +21,7 @@ sample Command row = 0xF0 ∷ []
 sample Answer row = row .answers .low ∷ cond (row .pair) (0x00 ∷ []) []
 
 abbrev pub fits : Direction → Row → Bool
-fits dir row = lengthOf dir row (length (sample dir row)) && valueOf dir row (sample dir row)
+fits dir row = hasLength dir row (length (sample dir row)) && hasValue dir row (sample dir row)
 
 pub rows-fit : every (λ row. fits Command row && fits Answer row) table ≡ true
 unfolding table

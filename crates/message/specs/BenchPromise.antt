@@ -6,7 +6,7 @@ use mathlib.Core.List.{List, [], _∷_, map}
 use Prim.Native.Nat.{ℕ}
 use lib.ListN.{length}
 use lib.IntN.{pos, negℤ}
-use Rattle.fields.specs.Fields.{bytesAt}
+use Rattle.lent.specs.Placed.{bytesAt}
 use Rattle.frame.specs.Capture.{eventsFrom, firstOf}
 use Rattle.frame.specs.declared.direction.Direction.{Direction}
 use Rattle.frame.specs.declared.direction.Direction.the-variants.{Command, Answer}
@@ -36,8 +36,8 @@ bench p dir bytes means = record { profile = p; dir = dir; bytes = bytes; means 
 abbrev pub sets : ℕ → ℕ → Content → FrameReading
 sets zone command content = Message (message.Command (record { zone = zone; command = command; content = content }))
 
-abbrev pub tells : ℕ → ℕ → Content → FrameReading
-tells zone command content = Message (message.Status (record { zone = zone; command = command; content = content }))
+abbrev pub reports : ℕ → ℕ → Content → FrameReading
+reports zone command content = Message (message.Status (record { zone = zone; command = command; content = content }))
 
 unfoldable pub frames : List Bench
 frames =
@@ -59,26 +59,26 @@ frames =
     ∷ bench S Command (0x21 ∷ 0x01 ∷ 0x0D ∷ 0x01 ∷ 0x64 ∷ 0x0D ∷ []) (Refused 4)
     ∷ bench S Answer (0x21 ∷ 0x01 ∷ 0x0E ∷ 0x00 ∷ 0x01 ∷ 0x02 ∷ 0x0D ∷ []) (Refused 4)
     -- input 6 on
-    ∷ bench S Answer (0x21 ∷ 0x01 ∷ 0x0F ∷ 0x00 ∷ 0x02 ∷ 0x06 ∷ 0x01 ∷ 0x0D ∷ []) (tells 1 0x0F (Input 6 true))
+    ∷ bench S Answer (0x21 ∷ 0x01 ∷ 0x0F ∷ 0x00 ∷ 0x02 ∷ 0x06 ∷ 0x01 ∷ 0x0D ∷ []) (reports 1 0x0F (Input 6 true))
     -- denied
     ∷ bench A Answer (0x21 ∷ 0x07 ∷ 0x99 ∷ 0x83 ∷ 0x00 ∷ 0x0D ∷ []) (Message (message.Denied (record { zone = 7; command = 0x99; answer = 0x83 })))
     ∷ bench A Answer (0x21 ∷ 0x01 ∷ 0x38 ∷ 0x81 ∷ 0x01 ∷ 0x02 ∷ 0x0D ∷ []) (Refused 5)
     ∷ []
 
 -- what the first event of bytes reads as, where it is a frame
-abbrev pub heardAs : Profile → Direction → List ℕ → ℕ → ℕ → Kind → FrameReading
-heardAs p dir bytes at n kind.Frame = frameRead p dir (bytesAt bytes at n)
-heardAs p dir bytes at n kind.Broken = NotOneFrame
-heardAs p dir bytes at n kind.Noise = NotOneFrame
-heardAs p dir bytes at n kind.Pending = NotOneFrame
+abbrev pub readAs : Profile → Direction → List ℕ → ℕ → ℕ → Kind → FrameReading
+readAs p dir bytes at n kind.Frame = frameRead p dir (bytesAt bytes at n)
+readAs p dir bytes at n kind.Broken = NotOneFrame
+readAs p dir bytes at n kind.Noise = NotOneFrame
+readAs p dir bytes at n kind.Pending = NotOneFrame
 
-abbrev pub heardFirst : Profile → Direction → List ℕ → Next → FrameReading
-heardFirst p dir bytes (next.Event e) = heardAs p dir bytes (e .at) (e .length) (e .kind)
-heardFirst p dir bytes next.End = NotOneFrame
+abbrev pub readFirst : Profile → Direction → List ℕ → Next → FrameReading
+readFirst p dir bytes (next.Event e) = readAs p dir bytes (e .at) (e .length) (e .kind)
+readFirst p dir bytes next.End = NotOneFrame
 
-abbrev pub heard : Bench → FrameReading
-heard b = heardFirst (b .profile) (b .dir) (b .bytes) (firstOf (eventsFrom (b .dir) (b .bytes) 0))
+abbrev pub benchReading : Bench → FrameReading
+benchReading b = readFirst (b .profile) (b .dir) (b .bytes) (firstOf (eventsFrom (b .dir) (b .bytes) 0))
 
 pub record BenchPromise : Type 0 where
   pub all : length frames ≡ 15
-  pub holds : map heard frames ≡ map (λ (b : Bench). b .means) frames
+  pub holds : map benchReading frames ≡ map (λ (b : Bench). b .means) frames

@@ -3,15 +3,15 @@
 use Prim.Native.Nat.{ℕ}
 use mathlib.Core.Bool.{Bool, true, false}
 use mathlib.Core.List.{List}
-use Rattle.frame.specs.Refusal.{ruled}
+use Rattle.refusals.specs.Rule.{ruled}
 use Rattle.frame.specs.declared.direction.Direction.{Direction}
 use Rattle.row.specs.declared.profile.Profile.{Profile}
-use Rattle.judging.specs.Judge.{judgeLines}
+use Rattle.judging.specs.Judge.{judgeRules}
 use Rattle.message.specs.Message.{said}
 use Rattle.message.specs.declared.read.Message.{Message}
 use Rattle.message.specs.declared.read.Message.the-variants as message
-use Rattle.fields.specs.declared.raw.Written.{Written}
-use Rattle.fields.specs.declared.raw.Written.the-variants as written
+use Rattle.lent.specs.declared.written.Written.{Written}
+use Rattle.lent.specs.declared.written.Written.the-variants as written
 use Rattle.judging.specs.declared.judge.Judged.{Judged}
 use Rattle.judging.specs.declared.judge.Judged.the-variants as judged
 use Rattle.message.specs.declared.read.SaidReading.{SaidReading}
@@ -44,7 +44,7 @@ readingWritten (reading.Refused n) = written.Refused n
 -- what a command or a status says, where none of its lines applies
 unfoldable pub saidRead : Profile → Direction → ℕ → ℕ → List ℕ → SaidReading
 saidRead profile dir zone command body =
-    ruled (judgeLines profile dir zone command body) sayings.Refused (sayings.Said (said profile dir zone command body))
+    ruled (judgeRules profile dir zone command body) sayings.Refused (sayings.Said (said profile dir zone command body))
 
 abbrev pub isDenialMessage : Message → Bool
 isDenialMessage (message.Command s) = false

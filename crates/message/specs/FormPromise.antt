@@ -10,14 +10,14 @@ use Rattle.row.specs.Table.{rowOf}
 use Rattle.row.specs.declared.profile.Profile.{Profile}
 use Rattle.row.specs.declared.table.Row.{Row}
 use Rattle.row.specs.declared.table.Found.the-variants as found
-use Rattle.judging.specs.Judge.{lengthOf, valueOf}
+use Rattle.judging.specs.Judge.{hasLength, hasValue}
 use Rattle.message.specs.Content.{contentOf, encodedOf, encodedData, sizeOf, isForm}
 use Rattle.message.specs.declared.content.Content.{Content}
 
 -- data that a row has in a direction
 pub record LegalData (dir : Direction) (row : Row) (body : List ℕ) : Type 0 where
-  pub long : lengthOf dir row (length body) ≡ true
-  pub value : valueOf dir row body ≡ true
+  pub long : hasLength dir row (length body) ≡ true
+  pub value : hasValue dir row body ≡ true
 
 pub record FormPromise : Type 0 where
   -- legal data say a form of the row, and that form's data are these
@@ -25,5 +25,5 @@ pub record FormPromise : Type 0 where
       → (isForm dir row (contentOf dir row body) ≡ true) × (encodedData (encodedOf row (contentOf dir row body)) ≡ body)
   -- a form of the row has legal data, and they say it
   pub written : (profile : Profile) (command : ℕ) (row : Row) (dir : Direction) (content : Content) → rowOf profile command ≡ found.Row row → isForm dir row content ≡ true
-      → (lengthOf dir row (sizeOf content) ≡ true)
+      → (hasLength dir row (sizeOf content) ≡ true)
       → LegalData dir row (encodedData (encodedOf row content)) × (length (encodedData (encodedOf row content)) ≡ sizeOf content) × (contentOf dir row (encodedData (encodedOf row content)) ≡ content)

@@ -3,14 +3,14 @@ use Prim.Native.Nat.{ℕ}
 use mathlib.Core.Bool.{Bool, cond, not, _&&_, _||_}
 use mathlib.Core.List.{List, [], _∷_}
 use lib.Dec.{eqb, leb}
-use Rattle.frame.specs.Refusal.{Line, line, ruled}
+use Rattle.refusals.specs.Rule.{Rule, rule, ruled}
 use Rattle.fields.specs.Fields.{isFrame, fieldsIn, dataIn}
 use Rattle.fields.specs.Raw.{tooLong}
 use Rattle.frame.specs.declared.direction.Direction.{Direction}
 use Rattle.frame.specs.declared.direction.Direction.the-variants.{Command, Answer}
 use Rattle.row.specs.Table.{rowOf}
 use Rattle.row.specs.declared.profile.Profile.{Profile}
-use Rattle.judging.specs.Judge.{rowIn, judgeLines}
+use Rattle.judging.specs.Judge.{rowIn, judgeRules}
 use Rattle.message.specs.Content.{contentOf}
 use Rattle.message.specs.declared.read.Said.{Said}
 use Rattle.message.specs.declared.read.Denial.{Denial}
@@ -26,15 +26,15 @@ abbrev pub isDenial : ℕ → Bool
 isDenial ac = leb 0x82 ac && leb ac 0x86
 
 -- 5: "answer code not 00 or 82 to 86"
-abbrev pub wrongCode : ℕ → Line
-wrongCode ac = line 5 (not (eqb ac 0x00 || isDenial ac))
+abbrev pub wrongCode : ℕ → Rule
+wrongCode ac = rule 5 (not (eqb ac 0x00 || isDenial ac))
 
 -- "Answers: 5; then, if Ac is 82 to 86, the frame is the message denied with its zone, command, Ac and data as they came,
 -- unchecked ..; if Ac is 00, as for commands." Denied data over 255, which no frame brings, are 3.
-abbrev pub readLines : Profile → Direction → ℕ → ℕ → ℕ → List ℕ → List Line
-readLines profile Command zone command ac body = judgeLines profile Command zone command body
-readLines profile Answer zone command ac body =
-    wrongCode ac ∷ cond (isDenial ac) (tooLong body ∷ []) (judgeLines profile Answer zone command body)
+abbrev pub readRules : Profile → Direction → ℕ → ℕ → ℕ → List ℕ → List Rule
+readRules profile Command zone command ac body = judgeRules profile Command zone command body
+readRules profile Answer zone command ac body =
+    wrongCode ac ∷ cond (isDenial ac) (tooLong body ∷ []) (judgeRules profile Answer zone command body)
 
 abbrev pub said : Profile → Direction → ℕ → ℕ → List ℕ → Said
 said profile dir zone command body = record { zone = zone; command = command; content = contentOf dir (rowIn (rowOf profile command)) body }
@@ -50,7 +50,7 @@ messageOf profile Answer zone command ac body =
 
 unfoldable pub readOf : Profile → Direction → ℕ → ℕ → ℕ → List ℕ → Reading
 readOf profile dir zone command ac body =
-    ruled (readLines profile dir zone command ac body) reading.Refused (reading.Message (messageOf profile dir zone command ac body))
+    ruled (readRules profile dir zone command ac body) reading.Refused (reading.Message (messageOf profile dir zone command ac body))
 
 -- the data of a denied message, as they came; the other messages have theirs in their content
 abbrev pub deniedData : Message → List ℕ → List ℕ

@@ -4,12 +4,13 @@ use mathlib.Core.Path.{_≡_}
 use mathlib.Core.List.{List}
 use Prim.Native.Nat.{ℕ, _+_, _≤_}
 use lib.ListN.{length}
-use Rattle.fields.specs.Raw.{placed}
-use Rattle.fields.specs.Fields.{dataOf, bytesAt}
+use Rattle.lent.specs.Placed.{placed}
+use Rattle.fields.specs.Fields.{dataOf}
+use Rattle.lent.specs.Placed.{bytesAt}
 use Rattle.frame.specs.Capture.{event, eventsFrom, firstOf}
 use Rattle.frame.specs.declared.direction.Direction.{Direction}
 use Rattle.frame.specs.declared.direction.Direction.the-variants.{Answer}
-use Rattle.fields.specs.declared.raw.Written.the-variants as written
+use Rattle.lent.specs.declared.written.Written.the-variants as written
 use Rattle.frame.specs.declared.capture.Kind.the-variants as kind
 use Rattle.frame.specs.declared.capture.Next.the-variants as next
 use Rattle.row.specs.declared.profile.Profile.{Profile}

@@ -3,13 +3,13 @@
 use mathlib.Core.Path.{_≡_}
 use mathlib.Core.List.{List}
 use Prim.Native.Nat.{ℕ}
-use Rattle.fields.specs.Numbers.{writtenNumber, writtenCount}
+use Rattle.lent.specs.Written.{writtenNumber, writtenCount}
 use Rattle.frame.specs.declared.direction.Direction.{Direction}
 use Rattle.frame.specs.declared.direction.Direction.the-variants.{Command, Answer}
 use Rattle.row.specs.Profile.{profileOf}
 use Rattle.row.specs.declared.profile.Profile.{Profile}
 use Rattle.message.specs.Message.{readOf, frameRead}
-use Rattle.message.specs.Numbers.{profileNumber, readingNumber, readingPaper, frameNumber, framePaper, zeros}
+use Rattle.message.specs.Numbers.{profileNumber, readingNumber, readingPaper, frameNumber, framePaper, zeroPaper}
 use Rattle.message.specs.Write.{messageAnswered, messageLeft, fieldsAnswered, fieldsLeft}
 use Rattle.message.specs.declared.read.Message.{Message}
 use Rattle.message.specs.declared.read.Reading.the-variants as reading
@@ -18,7 +18,7 @@ abbrev pub codeOn : Direction → ℕ → ℕ
 codeOn Command ac = 0
 codeOn Answer ac = ac
 
-pub record RefusalPromise : Type 0 where
+pub record MessageRefusalPromise : Type 0 where
   -- 12 for any letter but A and S
   pub letter : (l : ℕ) → (l ≡ 0x41 → ⊥) → (l ≡ 0x53 → ⊥) → profileNumber (profileOf l) ≡ 12
   pub named : (profileNumber (profileOf 0x41) ≡ 0) × (profileNumber (profileOf 0x53) ≡ 0)
@@ -27,9 +27,9 @@ pub record RefusalPromise : Type 0 where
       → (readingNumber (readOf profile dir zone command ac body) ≡ 0)
       × (readingPaper profile (readOf profile dir zone command ac body) body ≡ record { zone = zone; command = command; answer = codeOn dir ac; body = body })
   pub zero : (profile : Profile) (dir : Direction) (zone command ac : ℕ) (body : List ℕ) → (readingNumber (readOf profile dir zone command ac body) ≡ 0 → ⊥)
-      → readingPaper profile (readOf profile dir zone command ac body) body ≡ zeros
+      → readingPaper profile (readOf profile dir zone command ac body) body ≡ zeroPaper
   pub frame-zero : (profile : Profile) (dir : Direction) (bytes body : List ℕ) → (frameNumber (frameRead profile dir bytes) ≡ 0 → ⊥)
-      → framePaper profile (frameRead profile dir bytes) body ≡ zeros
+      → framePaper profile (frameRead profile dir bytes) body ≡ zeroPaper
   pub message-kept : (profile : Profile) (buf : List ℕ) (at : ℕ) (m : Message) (body : List ℕ) → (writtenNumber (messageAnswered profile buf at m body) ≡ 0 → ⊥)
       → (messageLeft profile buf at m body ≡ buf) × (writtenCount (messageAnswered profile buf at m body) ≡ 0)
   pub fields-kept : (profile : Profile) (dir : Direction) (buf : List ℕ) (at zone command ac : ℕ) (body : List ℕ)

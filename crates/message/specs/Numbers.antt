@@ -34,12 +34,12 @@ messagePaper profile (message.Command s) body = record { zone = s .zone; command
 messagePaper profile (message.Status s) body = record { zone = s .zone; command = s .command; answer = 0; body = saidData profile (s .command) (s .content) }
 messagePaper profile (message.Denied d) body = record { zone = d .zone; command = d .command; answer = d .answer; body = body }
 
-abbrev pub zeros : Paper
-zeros = record { zone = 0; command = 0; answer = 0; body = [] }
+abbrev pub zeroPaper : Paper
+zeroPaper = record { zone = 0; command = 0; answer = 0; body = [] }
 
 abbrev pub readingPaper : Profile → Reading → List ℕ → Paper
 readingPaper profile (reading.Message m) body = messagePaper profile m body
-readingPaper profile (reading.Refused n) body = zeros
+readingPaper profile (reading.Refused n) body = zeroPaper
 
 -- the same of a frame's bytes; where they are not one whole frame the paper has no number, and 0 stands here
 abbrev pub frameNumber : FrameReading → ℕ
@@ -49,5 +49,5 @@ frameNumber frame.NotOneFrame = 0
 
 abbrev pub framePaper : Profile → FrameReading → List ℕ → Paper
 framePaper profile (frame.Message m) body = messagePaper profile m body
-framePaper profile (frame.Refused n) body = zeros
-framePaper profile frame.NotOneFrame body = zeros
+framePaper profile (frame.Refused n) body = zeroPaper
+framePaper profile frame.NotOneFrame body = zeroPaper

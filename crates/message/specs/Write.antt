@@ -3,34 +3,35 @@ use Prim.Native.Nat.{ℕ, _+_}
 use mathlib.Core.Bool.{not}
 use mathlib.Core.List.{List, [], _∷_, _++_}
 use lib.ListN.{length}
-use Rattle.frame.specs.Refusal.{Line, line, ruled, noRoom}
+use Rattle.refusals.specs.Rule.{Rule, rule, ruled}
+use Rattle.lent.specs.Written.{writeAnswered, writeLeft}
 use Rattle.frame.specs.Frame.{frameOf}
-use Rattle.fields.specs.Raw.{placed, tooLong}
+use Rattle.fields.specs.Raw.{tooLong}
 use Rattle.frame.specs.declared.direction.Direction.{Direction}
 use Rattle.frame.specs.declared.direction.Direction.the-variants.{Command, Answer}
-use Rattle.fields.specs.declared.raw.Written.{Written}
-use Rattle.fields.specs.declared.raw.Written.the-variants.{Bytes, Refused}
+use Rattle.lent.specs.declared.written.Written.{Written}
+use Rattle.lent.specs.declared.written.Written.the-variants.{Bytes, Refused}
 use Rattle.row.specs.Table.{rowOf}
 use Rattle.row.specs.declared.profile.Profile.{Profile}
-use Rattle.judging.specs.Judge.{wrongLength, rowIn, rowLines}
+use Rattle.judging.specs.Judge.{wrongLength, rowIn, rowRules}
 use Rattle.message.specs.Content.{encodedOf, encodedData, sizeOf, isForm}
-use Rattle.message.specs.Message.{isDenial, readLines}
+use Rattle.message.specs.Message.{isDenial, readRules}
 use Rattle.message.specs.declared.content.Content.{Content}
 use Rattle.message.specs.declared.read.Message.{Message}
 use Rattle.message.specs.declared.read.Message.the-variants as message
 
 -- the lines of what a command or a status says: those of its data; 4 also where the row has no such form in this direction, as
 -- `up` in A 37, or a number has no code
-abbrev pub saidLines : Profile → Direction → ℕ → ℕ → Content → List Line
-saidLines profile dir zone command content =
-    rowLines profile zone command
+abbrev pub saidRules : Profile → Direction → ℕ → ℕ → Content → List Rule
+saidRules profile dir zone command content =
+    rowRules profile zone command
     ++ wrongLength dir (rowIn (rowOf profile command)) (sizeOf content)
-    ∷ line 4 (not (isForm dir (rowIn (rowOf profile command)) content))
+    ∷ rule 4 (not (isForm dir (rowIn (rowOf profile command)) content))
     ∷ []
 
 -- 5: "answer code not 00 or 82 to 86; 00 in a message to be written as denied"
-abbrev pub notDenied : ℕ → Line
-notDenied ac = line 5 (not (isDenial ac))
+abbrev pub notDenied : ℕ → Rule
+notDenied ac = rule 5 (not (isDenial ac))
 
 -- which way a message goes, its lines, and its frame
 abbrev pub messageDirection : Message → Direction
@@ -38,10 +39,10 @@ messageDirection (message.Command s) = Command
 messageDirection (message.Status s) = Answer
 messageDirection (message.Denied d) = Answer
 
-abbrev pub writeLines : Profile → Message → List ℕ → List Line
-writeLines profile (message.Command s) body = saidLines profile Command (s .zone) (s .command) (s .content)
-writeLines profile (message.Status s) body = saidLines profile Answer (s .zone) (s .command) (s .content)
-writeLines profile (message.Denied d) body = notDenied (d .answer) ∷ tooLong body ∷ []
+abbrev pub writeRules : Profile → Message → List ℕ → List Rule
+writeRules profile (message.Command s) body = saidRules profile Command (s .zone) (s .command) (s .content)
+writeRules profile (message.Status s) body = saidRules profile Answer (s .zone) (s .command) (s .content)
+writeRules profile (message.Denied d) body = notDenied (d .answer) ∷ tooLong body ∷ []
 
 abbrev pub saidData : Profile → ℕ → Content → List ℕ
 saidData profile command content = encodedData (encodedOf (rowIn (rowOf profile command)) content)
@@ -51,22 +52,15 @@ messageFrame profile (message.Command s) body = frameOf Command (s .zone) (s .co
 messageFrame profile (message.Status s) body = frameOf Answer (s .zone) (s .command) 0 (saidData profile (s .command) (s .content))
 messageFrame profile (message.Denied d) body = frameOf Answer (d .zone) (d .command) (d .answer) body
 
--- what is answered when bytes are to be written after checks, and the buffer after it
-unfoldable pub writeAnswered : List Line → List ℕ → ℕ → List ℕ → Written
-writeAnswered lines buf at bytes = ruled (lines ++ noRoom buf at (length bytes) ∷ []) Refused (Bytes (length bytes))
-
-unfoldable pub writeLeft : List Line → List ℕ → ℕ → List ℕ → List ℕ
-writeLeft lines buf at bytes = ruled (lines ++ noRoom buf at (length bytes) ∷ []) (λ n. buf) (placed buf at bytes)
-
 -- a message, and fields and data that are to be a message
 unfoldable pub messageAnswered : Profile → List ℕ → ℕ → Message → List ℕ → Written
-messageAnswered profile buf at m body = writeAnswered (writeLines profile m body) buf at (messageFrame profile m body)
+messageAnswered profile buf at m body = writeAnswered (writeRules profile m body) buf at (messageFrame profile m body)
 
 unfoldable pub messageLeft : Profile → List ℕ → ℕ → Message → List ℕ → List ℕ
-messageLeft profile buf at m body = writeLeft (writeLines profile m body) buf at (messageFrame profile m body)
+messageLeft profile buf at m body = writeLeft (writeRules profile m body) buf at (messageFrame profile m body)
 
 unfoldable pub fieldsAnswered : Profile → Direction → List ℕ → ℕ → ℕ → ℕ → ℕ → List ℕ → Written
-fieldsAnswered profile dir buf at zone command ac body = writeAnswered (readLines profile dir zone command ac body) buf at (frameOf dir zone command ac body)
+fieldsAnswered profile dir buf at zone command ac body = writeAnswered (readRules profile dir zone command ac body) buf at (frameOf dir zone command ac body)
 
 unfoldable pub fieldsLeft : Profile → Direction → List ℕ → ℕ → ℕ → ℕ → ℕ → List ℕ → List ℕ
-fieldsLeft profile dir buf at zone command ac body = writeLeft (readLines profile dir zone command ac body) buf at (frameOf dir zone command ac body)
+fieldsLeft profile dir buf at zone command ac body = writeLeft (readRules profile dir zone command ac body) buf at (frameOf dir zone command ac body)

@@ -6,20 +6,21 @@ use crate::content::size_of;
 use crate::read::Message;
 use crate::read::Reading;
 use crate::read::read_message;
-use fields::raw::Written;
 use fields::raw::write_raw;
 use frame::direction::Direction;
 use judging::judge::Judged;
 use judging::judge::judge_row;
 use judging::judge::length_fits;
+use lent::written::Written;
 use row::profile::Profile;
 ghost use mathlib.Core.Path.{_≡_};
 ghost use mathlib.Core.List.{[], _∷_};
 ghost use Rattle.frame.specs.Frame.{frameOf};
-ghost use Rattle.fields.specs.Raw.{tooLong, rawAnswered, rawLeft};
+ghost use Rattle.fields.specs.Raw.{tooLong, rawRules};
 ghost use Rattle.frame.specs.declared.direction.Direction.the-variants as direction;
 ghost use Rattle.message.specs.Content.{encodedData};
-ghost use Rattle.message.specs.Write.{saidLines, saidData, notDenied, writeAnswered, writeLeft, messageAnswered, messageLeft, fieldsAnswered, fieldsLeft};
+ghost use Rattle.message.specs.Write.{saidRules, saidData, notDenied, messageAnswered, messageLeft, fieldsAnswered, fieldsLeft};
+ghost use Rattle.lent.specs.Written.{writeAnswered, writeLeft};
 ghost use Rattle.message.specs.Computed.{judgedWritten, readingWritten};
 
 // Writes a message into the rest of the buffer from a place: the checks of reading, 4 also for a form
@@ -32,7 +33,8 @@ pub fn write_message(
     message: Message,
     body: &[u8],
 ) -> Written
-    ensures { λ r. ⌜ (r ≡ messageAnswered profile (now (buf .entry)) at message (now (body .entry))) × (now (buf .exit) ≡ messageLeft profile (now (buf .entry)) at message (now (body .entry))) ⌝ }
+    ensures answers { λ r. ⌜ r ≡ messageAnswered profile (now (buf .entry)) at message (now (body .entry)) ⌝ }
+    ensures leaves { λ _. ⌜ now (buf .exit) ≡ messageLeft profile (now (buf .entry)) at message (now (body .entry)) ⌝ }
 {
     match message {
         Message::Command(said) => {
@@ -82,7 +84,8 @@ pub fn write_fields(
     answer: u8,
     body: &[u8],
 ) -> Written
-    ensures { λ r. ⌜ (r ≡ fieldsAnswered profile direction (now (buf .entry)) at zone command answer (now (body .entry))) × (now (buf .exit) ≡ fieldsLeft profile direction (now (buf .entry)) at zone command answer (now (body .entry))) ⌝ }
+    ensures answers { λ r. ⌜ r ≡ fieldsAnswered profile direction (now (buf .entry)) at zone command answer (now (body .entry)) ⌝ }
+    ensures leaves { λ _. ⌜ now (buf .exit) ≡ fieldsLeft profile direction (now (buf .entry)) at zone command answer (now (body .entry)) ⌝ }
 {
     let reading = read_message(profile, direction, zone, command, answer, body);
     let Reading::Message(_) = reading else {
@@ -100,7 +103,8 @@ fn write_denied(
     answer: u8,
     body: &[u8],
 ) -> Written
-    ensures { λ r. ⌜ (r ≡ writeAnswered (notDenied answer ∷ tooLong (now (body .entry)) ∷ []) (now (buf .entry)) at (frameOf direction.Answer zone command answer (now (body .entry)))) × (now (buf .exit) ≡ writeLeft (notDenied answer ∷ tooLong (now (body .entry)) ∷ []) (now (buf .entry)) at (frameOf direction.Answer zone command answer (now (body .entry)))) ⌝ }
+    ensures answers { λ r. ⌜ r ≡ writeAnswered (notDenied answer ∷ tooLong (now (body .entry)) ∷ []) (now (buf .entry)) at (frameOf direction.Answer zone command answer (now (body .entry))) ⌝ }
+    ensures leaves { λ _. ⌜ now (buf .exit) ≡ writeLeft (notDenied answer ∷ tooLong (now (body .entry)) ∷ []) (now (buf .entry)) at (frameOf direction.Answer zone command answer (now (body .entry))) ⌝ }
 {
     if answer < 0x82 {
         return Written::Refused(5);
@@ -121,7 +125,8 @@ fn write_said(
     command: u8,
     content: Content,
 ) -> Written
-    ensures { λ r. ⌜ (r ≡ writeAnswered (saidLines profile direction zone command content) (now (buf .entry)) at (frameOf direction zone command 0 (saidData profile command content))) × (now (buf .exit) ≡ writeLeft (saidLines profile direction zone command content) (now (buf .entry)) at (frameOf direction zone command 0 (saidData profile command content))) ⌝ }
+    ensures answers { λ r. ⌜ r ≡ writeAnswered (saidRules profile direction zone command content) (now (buf .entry)) at (frameOf direction zone command 0 (saidData profile command content)) ⌝ }
+    ensures leaves { λ _. ⌜ now (buf .exit) ≡ writeLeft (saidRules profile direction zone command content) (now (buf .entry)) at (frameOf direction zone command 0 (saidData profile command content)) ⌝ }
 {
     let judged = judge_row(profile, zone, command);
     let Judged::Legal(row) = judged else {
@@ -145,7 +150,8 @@ fn write_encoded(
     command: u8,
     encoded: Encoded,
 ) -> Written
-    ensures { λ r. ⌜ (r ≡ rawAnswered direction (now (buf .entry)) at (encodedData encoded)) × (now (buf .exit) ≡ rawLeft direction (now (buf .entry)) at zone command 0 (encodedData encoded)) ⌝ }
+    ensures answers { λ r. ⌜ r ≡ writeAnswered (rawRules (encodedData encoded)) (now (buf .entry)) at (frameOf direction zone command 0 (encodedData encoded)) ⌝ }
+    ensures leaves { λ _. ⌜ now (buf .exit) ≡ writeLeft (rawRules (encodedData encoded)) (now (buf .entry)) at (frameOf direction zone command 0 (encodedData encoded)) ⌝ }
 {
     match encoded {
         Encoded::One(first) => write_raw(direction, buf, at, zone, command, 0, &[first]),

@@ -7,7 +7,7 @@ use lib.Dec.{leb, ltb}
 use lib.IntN.{ℤ, pos, negsuc, negℤ}
 use borrow.Author.Tests.{ltb-true, ltb-false, leb-true, lt-ltb, le-ltb, le-leb}
 use Rattle.row.specs.Signed.{numberOf, codeOf}
-use Rattle.row.specs.SignedCodePromise.{SignedPromise}
+use Rattle.row.specs.SignedCodePromise.{SignedCodePromise}
 use Rattle.row.specs.declared.signed.Coded.the-variants.{Code, NoCode}
 
 code-number : (c : ℕ) → c < 0x100 → (c ≡ 0x80 → ⊥) → codeOf (numberOf c) ≡ Code c
@@ -43,6 +43,6 @@ unfolding codeOf
 code-byte (pos n) c h = omega (arith, told n 0x7F n c h)
 code-byte (negsuc n) c h = omega (arith, told (suc n) 0x7F (0x80 + suc n) c h)
 
-pub signed-promise : SignedPromise
+pub signed-promise : SignedCodePromise
 unfolding numberOf codeOf
 signed-promise = record { code-number = code-number; number-code = number-code; code-byte = code-byte; exact = (refl, refl) }

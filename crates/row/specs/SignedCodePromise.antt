@@ -6,7 +6,7 @@ use lib.IntN.{ℤ, pos, negℤ}
 use Rattle.row.specs.Signed.{numberOf, codeOf}
 use Rattle.row.specs.declared.signed.Coded.the-variants.{Code, NoCode}
 
-pub record SignedPromise : Type 0 where
+pub record SignedCodePromise : Type 0 where
   pub code-number : (c : ℕ) → c < 0x100 → (c ≡ 0x80 → ⊥) → codeOf (numberOf c) ≡ Code c
   pub number-code : (z : ℤ) (c : ℕ) → codeOf z ≡ Code c → numberOf c ≡ z
   pub code-byte : (z : ℤ) (c : ℕ) → codeOf z ≡ Code c → c < 0x100

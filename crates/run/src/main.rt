@@ -25,7 +25,7 @@ fn main() {
     let mut file = io::large_buffer();
     let length = read_argument(2, &mut word, &mut file);
     if length < LONG {
-        write_run(letter, fields::fields::bytes_at(&file, 0, length));
+        write_run(letter, lent::part::bytes_at(&file, 0, length));
         return;
     }
     if length == LONG {
@@ -37,7 +37,7 @@ fn write_run(letter: u8, file: &[u8]) {
     let mut run = [0u8; RUN];
     match sheetfile::by_letter::run_of_file(letter, file, &mut run, 0) {
         SheetWritten::Bytes(count) => {
-            io::write_all(OUT, fields::fields::bytes_at(&run, 0, count));
+            io::write_all(OUT, lent::part::bytes_at(&run, 0, count));
         }
         SheetWritten::Refused(number, place) => {
             say_refused(number, place);
@@ -76,7 +76,7 @@ fn first(word: &[u8]) -> u8 {
 // is room for; BAD, and says so, where it can't be read.
 fn read_argument(place: usize, word: &mut [u8], file: &mut [u8]) -> usize {
     let count = os::arg(place, word);
-    let path = fields::fields::bytes_at(word, 0, count);
+    let path = lent::part::bytes_at(word, 0, count);
     let fd = os::open_read(path);
     if fd < 0 {
         complain(b"can't open ", path);

@@ -8,7 +8,7 @@ use native.Mathlib.Omega.{arith}
 use borrow.Author.Tests.{lt-ltb, le-ltb}
 use lib.ListN.{length, take, drop, getD, replicate, length-append, length-replicate, drop-of-length-le}
 use lib.Seq.{take-suc, take-append-le, length-take-le}
-use Rattle.frame.specs.Refusal.{Line, line, ruled}
+use Rattle.refusals.specs.Rule.{Rule, rule, ruled}
 use Rattle.row.specs.declared.profile.Profile.{Profile}
 use Rattle.sheet.specs.Line.{isLegal, isRepeated}
 use Rattle.sheet.specs.Sheet.{sheetLimit, noLine, firstLines, linesOf}
@@ -25,8 +25,8 @@ module _ (profile : Profile) (earlier : List declared.Line) (l : declared.Line) 
   unfolding lowestFault
   lowest-sound e = go (isLegal profile l) (isRepeated earlier l) e
     where
-      go : (t u : Bool) → ruled (line 7 (not t) ∷ line 8 u ∷ []) (λ n. n) 0 ≡ 0
-          → ruled (line 7 (not t) ∷ line 8 u ∷ []) (λ n. Refused n (length earlier)) (lowestFault profile (earlier ++ l ∷ []) ls) ≡ lowestFault profile (earlier ++ l ∷ []) ls
+      go : (t u : Bool) → ruled (rule 7 (not t) ∷ rule 8 u ∷ []) (λ n. n) 0 ≡ 0
+          → ruled (rule 7 (not t) ∷ rule 8 u ∷ []) (λ n. Refused n (length earlier)) (lowestFault profile (earlier ++ l ∷ []) ls) ≡ lowestFault profile (earlier ++ l ∷ []) ls
       go false u f = absurd (omega arith)
       go true true f = absurd (omega arith)
       go true false f = refl
@@ -35,8 +35,8 @@ module _ (profile : Profile) (earlier : List declared.Line) (l : declared.Line) 
   unfolding lowestFault
   lowest-fault n e some = go (isLegal profile l) (isRepeated earlier l) e
     where
-      go : (t u : Bool) → ruled (line 7 (not t) ∷ line 8 u ∷ []) (λ n. n) 0 ≡ n
-          → ruled (line 7 (not t) ∷ line 8 u ∷ []) (λ n. Refused n (length earlier)) (lowestFault profile (earlier ++ l ∷ []) ls) ≡ Refused n (length earlier)
+      go : (t u : Bool) → ruled (rule 7 (not t) ∷ rule 8 u ∷ []) (λ n. n) 0 ≡ n
+          → ruled (rule 7 (not t) ∷ rule 8 u ∷ []) (λ n. Refused n (length earlier)) (lowestFault profile (earlier ++ l ∷ []) ls) ≡ Refused n (length earlier)
       go false u f = ap (λ (k : ℕ). Refused k (length earlier)) f
       go true true f = ap (λ (k : ℕ). Refused k (length earlier)) f
       go true false f = absurd (some (sym f))

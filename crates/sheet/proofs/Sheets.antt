@@ -16,7 +16,7 @@ use Rattle.sheet.specs.Line.{isLegal, isRepeated}
 use Rattle.sheet.specs.Sheet.{sheetLimit, noLines, withLine, linesOf, withAll}
 use Rattle.sheet.specs.Check.{lowestFault, sheetVerdict, verdictNumber, verdictPlace}
 use Rattle.sheet.specs.Computed.{faultOf}
-use Rattle.sheet.specs.SheetPromise.{AtFault, Sound, Lowest, AllSound, Says, SheetPromise}
+use Rattle.sheet.specs.SheetPromise.{AtFault, Sound, LowestFault, AllSound, Says, SheetPromise}
 use Rattle.sheet.specs.declared.line.Line.{Line}
 use Rattle.sheet.specs.declared.sheet.Sheet.{Sheet}
 use Rattle.sheet.specs.declared.check.Verdict.{Verdict}
@@ -36,7 +36,7 @@ module _ (profile : Profile) where
   accepts earlier [] s = refl
   accepts earlier (l ∷ ls) s = lowest-sound profile earlier l ls (sound-is earlier l (s .0)) ∙ accepts (earlier ++ l ∷ []) ls (s .1)
 
-  refuses : (earlier ls : List Line) (i n : ℕ) → Lowest profile earlier ls i n → lowestFault profile earlier ls ≡ Refused n (length earlier + i)
+  refuses : (earlier ls : List Line) (i n : ℕ) → LowestFault profile earlier ls i n → lowestFault profile earlier ls ≡ Refused n (length earlier + i)
   refuses earlier [] i n w = absurd w
   refuses earlier (l ∷ ls) zero n w =
       let f = fault-is earlier l n w in
@@ -54,12 +54,12 @@ module _ (profile : Profile) where
       go true true e f = inl (8, inr (e, f, refl))
       go true false e f = inr (e, f)
 
-  either : (earlier ls : List Line) → ((i : ℕ) × (n : ℕ) × Lowest profile earlier ls i n) ⊎ AllSound profile earlier ls
+  either : (earlier ls : List Line) → ((i : ℕ) × (n : ℕ) × LowestFault profile earlier ls i n) ⊎ AllSound profile earlier ls
   either earlier [] = inr tt
   either earlier (l ∷ ls) = go (line-either earlier l) (either (earlier ++ l ∷ []) ls)
     where
-      go : ((n : ℕ) × AtFault profile earlier l n) ⊎ Sound profile earlier l → ((i : ℕ) × (n : ℕ) × Lowest profile (earlier ++ l ∷ []) ls i n) ⊎ AllSound profile (earlier ++ l ∷ []) ls
-          → ((i : ℕ) × (n : ℕ) × Lowest profile earlier (l ∷ ls) i n) ⊎ AllSound profile earlier (l ∷ ls)
+      go : ((n : ℕ) × AtFault profile earlier l n) ⊎ Sound profile earlier l → ((i : ℕ) × (n : ℕ) × LowestFault profile (earlier ++ l ∷ []) ls i n) ⊎ AllSound profile (earlier ++ l ∷ []) ls
+          → ((i : ℕ) × (n : ℕ) × LowestFault profile earlier (l ∷ ls) i n) ⊎ AllSound profile earlier (l ∷ ls)
       go (inl a) rest = inl (zero, a .0, a .1)
       go (inr s) (inl w) = inl (suc (w .0), w .1, (s, w .2))
       go (inr s) (inr w) = inr (s, w)
@@ -79,7 +79,7 @@ module _ (profile : Profile) where
   pub only : (ls : List Line) → sheetVerdict profile ls ≡ Accepted → (length ls ≤ sheetLimit) × AllSound profile [] ls
   only ls e = go (ltb sheetLimit (length ls)) refl (either [] ls)
     where
-      go : (t : Bool) → ltb sheetLimit (length ls) ≡ t → ((i : ℕ) × (n : ℕ) × Lowest profile [] ls i n) ⊎ AllSound profile [] ls
+      go : (t : Bool) → ltb sheetLimit (length ls) ≡ t → ((i : ℕ) × (n : ℕ) × LowestFault profile [] ls i n) ⊎ AllSound profile [] ls
           → (length ls ≤ sheetLimit) × AllSound profile [] ls
       go true f w = absurd (never 6 sheetLimit (sym e ∙ long ls (ltb-true _ _ f)))
       go false f (inl w) =

@@ -4,8 +4,8 @@ use mathlib.Core.Bool.{not}
 use mathlib.Core.List.{List, [], _∷_, _++_}
 use lib.Dec.{ltb}
 use lib.ListN.{length}
-use Rattle.frame.specs.Refusal as refusal
-use Rattle.frame.specs.Refusal.{line, ruled}
+use Rattle.refusals.specs.Rule as refusal
+use Rattle.refusals.specs.Rule.{rule, ruled}
 use Rattle.row.specs.declared.profile.Profile.{Profile}
 use Rattle.sheet.specs.Line.{isLegal, isRepeated}
 use Rattle.sheet.specs.Sheet.{sheetLimit}
@@ -14,8 +14,8 @@ use Rattle.sheet.specs.declared.check.Verdict.{Verdict}
 use Rattle.sheet.specs.declared.check.Verdict.the-variants.{Accepted, Refused}
 
 -- a line's faults behind some lines, "7 before 8 on that line"
-abbrev pub faults : Profile → List Line → Line → List refusal.Line
-faults profile earlier l = line 7 (not (isLegal profile l)) ∷ line 8 (isRepeated earlier l) ∷ []
+abbrev pub faults : Profile → List Line → Line → List refusal.Rule
+faults profile earlier l = rule 7 (not (isLegal profile l)) ∷ rule 8 (isRepeated earlier l) ∷ []
 
 -- "the lowest line at fault", with its index
 unfoldable pub lowestFault : Profile → List Line → List Line → Verdict
@@ -25,7 +25,7 @@ lowestFault profile earlier (l ∷ ls) =
 
 -- 6: "sheet of more than 12 lines"; its place is the limit
 abbrev pub overLimit : List Line → Verdict
-overLimit ls = ruled (line 6 (ltb sheetLimit (length ls)) ∷ []) (λ n. Refused n sheetLimit) Accepted
+overLimit ls = ruled (rule 6 (ltb sheetLimit (length ls)) ∷ []) (λ n. Refused n sheetLimit) Accepted
 
 -- "then": the first of two verdicts that refuses
 abbrev pub firstRefusal : Verdict → Verdict → Verdict

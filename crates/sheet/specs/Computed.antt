@@ -1,7 +1,7 @@
 -- What a private function computes. It need not be believed: proofs/ ties it to the definitions.
 use Prim.Native.Nat.{ℕ}
 use mathlib.Core.List.{List}
-use Rattle.frame.specs.Refusal.{ruled}
+use Rattle.refusals.specs.Rule.{ruled}
 use Rattle.row.specs.declared.profile.Profile.{Profile}
 use Rattle.sheet.specs.Check.{faults}
 use Rattle.sheet.specs.declared.line.Line.{Line}

@@ -25,10 +25,10 @@ abbrev pub Sound : Profile → List Line → Line → Type 0
 Sound profile earlier l = (isLegal profile l ≡ true) × (isRepeated earlier l ≡ false)
 
 -- the line at an index is at fault, and each before it is sound
-abbrev pub Lowest : Profile → List Line → List Line → ℕ → ℕ → Type 0
-Lowest profile earlier [] i n = ⊥
-Lowest profile earlier (l ∷ ls) zero n = AtFault profile earlier l n
-Lowest profile earlier (l ∷ ls) (suc i) n = Sound profile earlier l × Lowest profile (earlier ++ l ∷ []) ls i n
+abbrev pub LowestFault : Profile → List Line → List Line → ℕ → ℕ → Type 0
+LowestFault profile earlier [] i n = ⊥
+LowestFault profile earlier (l ∷ ls) zero n = AtFault profile earlier l n
+LowestFault profile earlier (l ∷ ls) (suc i) n = Sound profile earlier l × LowestFault profile (earlier ++ l ∷ []) ls i n
 
 abbrev pub AllSound : Profile → List Line → List Line → Type 0
 AllSound profile earlier [] = Unit {0}
@@ -40,9 +40,9 @@ Says v n i = (verdictNumber v ≡ n) × (verdictPlace v ≡ i)
 
 pub record SheetPromise (profile : Profile) (ls : List Line) : Type 0 where
   pub long : sheetLimit < length ls → Says (sheetVerdict profile ls) 6 sheetLimit
-  pub fault : length ls ≤ sheetLimit → (i n : ℕ) → Lowest profile [] ls i n → Says (sheetVerdict profile ls) n i
+  pub fault : length ls ≤ sheetLimit → (i n : ℕ) → LowestFault profile [] ls i n → Says (sheetVerdict profile ls) n i
   pub sound : length ls ≤ sheetLimit → AllSound profile [] ls → (sheetVerdict profile ls ≡ Accepted) × Says (sheetVerdict profile ls) 0 0
-  pub either : ((i : ℕ) × (n : ℕ) × Lowest profile [] ls i n) ⊎ AllSound profile [] ls
+  pub either : ((i : ℕ) × (n : ℕ) × LowestFault profile [] ls i n) ⊎ AllSound profile [] ls
   pub only : sheetVerdict profile ls ≡ Accepted → (length ls ≤ sheetLimit) × AllSound profile [] ls
   pub together : sheetVerdict profile (linesOf (withAll noLines ls)) ≡ sheetVerdict profile ls
   pub kept : length ls ≤ sheetLimit → linesOf (withAll noLines ls) ≡ ls

@@ -7,11 +7,11 @@ use native.Mathlib.Omega.{arith}
 use lib.ListN.{length, take, drop, getD, set, replicate, length-append, length-replicate}
 use lib.Seq.{take-suc, take-at, drop-at, drop-cons, drop-drop, set-at}
 use Rattle.frame.specs.Frame.{frameOf}
-use Rattle.fields.specs.Raw.{placed}
-use Rattle.fields.proofs.Tail.{tail-placed}
+use Rattle.lent.specs.Placed.{placed}
+use Rattle.lent.proofs.Tail.{tail-placed}
 use Rattle.row.specs.declared.profile.Profile.{Profile}
 use Rattle.sheet.specs.Sheet.{noLine}
-use Rattle.sheetfile.specs.Order.{inOrder}
+use Rattle.lists.specs.InOrder.{inOrder}
 use Rattle.sheetfile.specs.File.{recordSize}
 use Rattle.sheetfile.specs.Computed.{zerosOf, bytesOf, sheetBytes}
 use Rattle.sheet.specs.declared.line.Line.{Line}

@@ -16,7 +16,7 @@ use Rattle.sheetfile.specs.Computed.{sheetBytes, fileAs}
 use Rattle.sheetfile.specs.declared.write.Form.{Form}
 use Rattle.sheetfile.specs.declared.write.Form.the-variants as form
 use Rattle.sheetfile.specs.ByLetter.{fileVerdictBy, copyAnswered, copyLeft, fileRunAnswered, fileRunLeft}
-use Rattle.sheetfile.specs.FileByLetterPromise.{PlainPromise, PlainLetter}
+use Rattle.sheetfile.specs.FileByLetterPromise.{FileByLetterPromise, FileOtherLetter}
 use Rattle.sheet.specs.declared.line.Line.{Line}
 use Rattle.sheet.specs.declared.sheet.Sheet.{Sheet}
 use Rattle.sheet.specs.declared.check.Verdict.{Verdict}
@@ -90,14 +90,14 @@ module _ (profile : Profile) (file : List ℕ) (buf : List ℕ) (at : ℕ) where
   as-left form.Run e = ran-left e
 
 -- the file of some lines
-pub plain-promise : (letter : ℕ) (profile : Profile) (n : profileOf letter ≡ named.Profile profile) (ls : List Line) (buf : List ℕ) (at : ℕ) → PlainPromise letter profile n ls buf at
+pub plain-promise : (letter : ℕ) (profile : Profile) (n : profileOf letter ≡ named.Profile profile) (ls : List Line) (buf : List ℕ) (at : ℕ) → FileByLetterPromise letter profile n ls buf at
 plain-promise letter profile n ls buf at = record {
   check = rw n (trip-verdict profile ls);
   copy = rw (n, trip-verdict profile ls) (refl, refl);
   run = rw (n, trip-verdict profile ls, trip-lines profile ls) (refl, refl);
 }
 
-pub plain-letter : (letter : ℕ) (file buf : List ℕ) (at : ℕ) → PlainLetter letter file buf at
+pub plain-letter : (letter : ℕ) (file buf : List ℕ) (at : ℕ) → FileOtherLetter letter file buf at
 unfolding profileOf
 plain-letter letter file buf at = record {
   check = λ a s. rw (ne-eqb letter 0x41 a, ne-eqb letter 0x53 s) (refl, refl);

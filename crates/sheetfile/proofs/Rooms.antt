@@ -4,8 +4,8 @@ use Prim.Native.Nat.{ℕ, _-_, _≤_, _<_}
 use mathlib.Core.List.{List}
 use native.Mathlib.Omega.{arith}
 use lib.ListN.{length}
-use Rattle.fields.specs.Raw.{placed}
-use Rattle.fields.proofs.Room.{no-place, no-room, has-room}
+use Rattle.lent.specs.Placed.{placed}
+use Rattle.lent.proofs.Room.{no-place, no-room, has-room}
 use Rattle.sheetfile.specs.Run.{flush}
 use Rattle.sheetfile.specs.Written.{answered, left}
 use Rattle.sheetfile.specs.Computed.{zerosOf}

@@ -13,7 +13,7 @@ use Rattle.row.specs.Profile.{letterOf, profileOf}
 use Rattle.row.specs.declared.profile.Profile.{Profile}
 use Rattle.row.specs.declared.profile.Profile.the-variants.{A, S}
 use Rattle.sheet.specs.Sheet.{noLines, withAll, linesOf}
-use Rattle.sheetfile.specs.Order.{inOrder}
+use Rattle.lists.specs.InOrder.{inOrder}
 use Rattle.sheet.specs.Check.{firstRefusal, lowestFault, sheetVerdict}
 use Rattle.sheetfile.specs.File.{Record, recordSize, records, linesIn, isWhole, isMarked, lowestWrong, fileOf, fileVerdict, readBy, fileRead, fileReadBy}
 use Rattle.sheet.specs.SheetPromise.{Says}

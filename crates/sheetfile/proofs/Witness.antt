@@ -8,7 +8,7 @@ use Rattle.row.specs.Table.{table, firstRow}
 use Rattle.row.specs.declared.profile.Profile.the-variants.{A, S}
 use Rattle.judging.specs.Judge.{rowJudged}
 use Rattle.sheet.specs.Line.{isLegal, isRepeated}
-use Rattle.sheetfile.specs.Order.{inOrder}
+use Rattle.lists.specs.InOrder.{inOrder}
 use Rattle.sheet.specs.Check.{lowestFault, sheetVerdict}
 use Rattle.sheetfile.specs.File.{records, linesIn, lowestWrong, fileOf, fileVerdict}
 use Rattle.sheetfile.specs.Run.{runOf}

@@ -8,8 +8,8 @@ use native.Mathlib.Omega.{arith}
 use borrow.Author.Tests.{ltb-true, ltb-false}
 use lib.Dec.{ltb}
 use lib.ListN.{length, take, drop}
-use Rattle.fields.specs.Raw.{placed}
-use Rattle.fields.proofs.Placed.{placed-there, placed-before, placed-after}
+use Rattle.lent.specs.Placed.{placed}
+use Rattle.lent.proofs.Placed.{placed-there, placed-before, placed-after}
 use Rattle.row.specs.declared.profile.Profile.{Profile}
 use Rattle.sheet.specs.Sheet.{linesOf}
 use Rattle.sheet.specs.Check.{sheetVerdict}

@@ -3,7 +3,7 @@ use Prim.Native.Nat.{ℕ, _+_}
 use mathlib.Core.List.{List, _++_}
 use lib.ListN.{getD, replicate}
 use Rattle.row.specs.declared.profile.Profile.{Profile}
-use Rattle.sheetfile.specs.Order.{inOrder}
+use Rattle.lists.specs.InOrder.{inOrder}
 use Rattle.sheetfile.specs.File.{Record, recordOf, records, linesIn}
 use Rattle.sheetfile.specs.Run.{flush, lineFrame, runOf}
 use Rattle.sheet.specs.declared.line.Line.{Line}

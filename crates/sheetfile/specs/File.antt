@@ -5,13 +5,13 @@ use mathlib.Core.Bool.{Bool, not, _&&_}
 use mathlib.Core.List.{List, [], _∷_}
 use lib.Dec.{eqb}
 use lib.ListN.{length}
-use Rattle.frame.specs.Refusal.{line, ruled}
+use Rattle.refusals.specs.Rule.{rule, ruled}
 use Rattle.row.specs.Profile.{letterOf}
 use Rattle.row.specs.declared.profile.Profile.{Profile}
 use Rattle.row.specs.declared.profile.Named.{Named}
 use Rattle.row.specs.declared.profile.Named.the-variants as named
 use Rattle.sheet.specs.Sheet.{noLines, withAll}
-use Rattle.sheetfile.specs.Order.{inOrder}
+use Rattle.lists.specs.InOrder.{inOrder}
 use Rattle.sheet.specs.Check.{firstRefusal, sheetVerdict}
 use Rattle.sheet.specs.declared.line.Line.{Line}
 use Rattle.sheet.specs.declared.check.Verdict.{Verdict}
@@ -61,7 +61,7 @@ abbrev pub isWhole : List ℕ → Bool
 isWhole file = eqb (length file) (recordSize * length (records file))
 
 abbrev pub unevenLength : List ℕ → Verdict
-unevenLength file = ruled (line 10 (not (isWhole file)) ∷ []) (λ n. Refused n (length (records file))) Accepted
+unevenLength file = ruled (rule 10 (not (isWhole file)) ∷ []) (λ n. Refused n (length (records file))) Accepted
 
 abbrev pub isMarked : Profile → Record → Bool
 isMarked profile r = eqb (r .first) 0x53 && (eqb (r .second) 0x4C && eqb (r .family) (letterOf profile))
@@ -69,7 +69,7 @@ isMarked profile r = eqb (r .first) 0x53 && (eqb (r .second) 0x4C && eqb (r .fam
 -- "the lowest record with a wrong mark or profile", the first of these at an index
 unfoldable pub lowestWrong : Profile → ℕ → List Record → Verdict
 lowestWrong profile i [] = Accepted
-lowestWrong profile i (r ∷ rs) = ruled (line 10 (not (isMarked profile r)) ∷ []) (λ n. Refused n i) (lowestWrong profile (i + 1) rs)
+lowestWrong profile i (r ∷ rs) = ruled (rule 10 (not (isMarked profile r)) ∷ []) (λ n. Refused n i) (lowestWrong profile (i + 1) rs)
 
 -- "Order: length not a multiple of 6 (place: the count of whole records), then the lowest record with a wrong mark or profile, both
 -- 10; then the sheet's checks."

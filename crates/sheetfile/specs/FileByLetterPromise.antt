@@ -17,14 +17,14 @@ use Rattle.sheetfile.specs.declared.write.SheetWritten.{SheetWritten}
 abbrev pub Wrote : SheetWritten → ℕ → ℕ → Type 0
 Wrote w n i = (sheetWrittenNumber w ≡ n) × (sheetWrittenPlace w ≡ i)
 
-pub record PlainPromise (letter : ℕ) (profile : Profile) (named : profileOf letter ≡ named.Profile profile) (ls : List Line) (buf : List ℕ) (at : ℕ) : Type 0 where
+pub record FileByLetterPromise (letter : ℕ) (profile : Profile) (named : profileOf letter ≡ named.Profile profile) (ls : List Line) (buf : List ℕ) (at : ℕ) : Type 0 where
   pub check : fileVerdictBy (profileOf letter) (fileOf profile ls) ≡ sheetVerdict profile ls
   pub copy : (copyAnswered (profileOf letter) (fileOf profile ls) buf at ≡ fileAnswered profile ls buf at)
       × (copyLeft (profileOf letter) (fileOf profile ls) buf at ≡ fileLeft profile ls buf at)
   pub run : (fileRunAnswered (profileOf letter) (fileOf profile ls) buf at ≡ runAnswered profile ls buf at)
       × (fileRunLeft (profileOf letter) (fileOf profile ls) buf at ≡ runLeft profile ls buf at)
 
-pub record PlainLetter (letter : ℕ) (file buf : List ℕ) (at : ℕ) : Type 0 where
+pub record FileOtherLetter (letter : ℕ) (file buf : List ℕ) (at : ℕ) : Type 0 where
   pub check : (letter ≡ 0x41 → ⊥) → (letter ≡ 0x53 → ⊥) → Says (fileVerdictBy (profileOf letter) file) 12 0
   pub copy : (letter ≡ 0x41 → ⊥) → (letter ≡ 0x53 → ⊥) → Wrote (copyAnswered (profileOf letter) file buf at) 12 0 × (copyLeft (profileOf letter) file buf at ≡ buf)
   pub run : (letter ≡ 0x41 → ⊥) → (letter ≡ 0x53 → ⊥) → Wrote (fileRunAnswered (profileOf letter) file buf at) 12 0 × (fileRunLeft (profileOf letter) file buf at ≡ buf)

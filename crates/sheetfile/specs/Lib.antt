@@ -1,6 +1,5 @@
 -- What must be believed: a sheet's file, its run, what writing answers and leaves; then the promises. `Computed` need not be
 -- believed.
-pub mod Order
 pub mod File
 pub mod Run
 pub mod Written

@@ -4,7 +4,7 @@ use mathlib.Core.List.{List, [], _∷_, _++_}
 use lib.ListN.{replicate}
 use Rattle.frame.specs.Frame.{frameOf}
 use Rattle.frame.specs.declared.direction.Direction.the-variants as direction
-use Rattle.sheetfile.specs.Order.{inOrder}
+use Rattle.lists.specs.InOrder.{inOrder}
 use Rattle.sheet.specs.declared.line.Line.{Line}
 
 -- "256 bytes of 00"

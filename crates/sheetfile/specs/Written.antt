@@ -2,8 +2,9 @@
 use Prim.Native.Nat.{ℕ}
 use mathlib.Core.List.{List, [], _∷_}
 use lib.ListN.{length}
-use Rattle.frame.specs.Refusal.{ruled, noRoom}
-use Rattle.fields.specs.Raw.{placed}
+use Rattle.refusals.specs.Rule.{ruled}
+use Rattle.lent.specs.Written.{noRoom}
+use Rattle.lent.specs.Placed.{placed}
 use Rattle.row.specs.declared.profile.Profile.{Profile}
 use Rattle.sheet.specs.Check.{sheetVerdict}
 use Rattle.sheetfile.specs.File.{fileOf}

@@ -13,7 +13,7 @@ ghost use mathlib.Core.List.{_++_};
 ghost use Prim.Native.Nat.{_+_, _*_, _≤_};
 ghost use lib.ListN.{length, take, drop, replicate};
 ghost use Rattle.sheet.specs.Sheet.{sheetLimit, firstLines, linesOf};
-ghost use Rattle.sheetfile.specs.Order.{inOrder};
+ghost use Rattle.lists.specs.InOrder.{inOrder};
 ghost use Rattle.sheetfile.specs.File.{recordSize, recordOf};
 ghost use Rattle.sheetfile.specs.Run.{lineFrame};
 ghost use Rattle.sheet.specs.Check.{sheetVerdict};

@@ -9,7 +9,8 @@ use lib.Dec.{ltb}
 use lib.ListN.{length}
 use Rattle.frame.specs.Frame.{frameOf}
 use Rattle.frame.specs.Capture.{captureLimit, event, eventsFrom, firstOf}
-use Rattle.fields.specs.Fields.{bytesAt, fieldsIn, dataIn}
+use Rattle.lent.specs.Placed.{bytesAt}
+use Rattle.fields.specs.Fields.{fieldsIn, dataIn}
 use Rattle.frame.specs.declared.direction.Direction.the-variants.{Answer}
 use Rattle.frame.specs.declared.capture.Kind.the-variants as kind
 use Rattle.frame.specs.declared.capture.Next.the-variants as next
@@ -18,12 +19,12 @@ use Rattle.row.specs.declared.profile.Profile.{Profile}
 use Rattle.sheet.specs.Check.{sheetVerdict}
 use Rattle.sheet.specs.declared.line.Line.{Line}
 use Rattle.sheet.specs.declared.check.Verdict.the-variants as verdict
-use Rattle.tracker.specs.Tracker.{fresh}
-use Rattle.tracker.specs.Feed.{Brought, fedAll}
+use Rattle.tracker.specs.Tracker.{freshTracker}
+use Rattle.tracker.specs.Feed.{BroughtAnswer, answersFed}
 use Rattle.signing.specs.Sign.{signOff}
 use Rattle.signing.specs.SignPromise.{AllAnswered}
 use Rattle.signing.specs.Capture.{broughtAt, broughtBy, captureFed, captureSigned}
-use Rattle.signing.specs.CaptureSignPromise.{CapturePromise}
+use Rattle.signing.specs.CaptureSignPromise.{CaptureSignPromise}
 use Rattle.tracker.specs.declared.tracker.Tracker.{Tracker}
 use Rattle.signing.specs.declared.sign.Signed.the-variants as signed
 use Rattle.signing.specs.declared.capture.CaptureFed.{CaptureFed}
@@ -45,12 +46,12 @@ module _ (t : Tracker) (capture : List ℕ) where
   pub fed-long : captureLimit < length capture → captureFed t capture ≡ record { tracker = t; answer = answer.Refused 11 }
   fed-long h = rw (lt-ltb captureLimit (length capture) h)
 
-  pub fed-short : length capture ≤ captureLimit → captureFed t capture ≡ record { tracker = fedAll t (broughtBy capture); answer = answer.Fed }
+  pub fed-short : length capture ≤ captureLimit → captureFed t capture ≡ record { tracker = answersFed t (broughtBy capture); answer = answer.Fed }
   fed-short h = rw (le-ltb captureLimit (length capture) h)
 
 module _ (profile : Profile) (ls : List Line) (capture : List ℕ) where
   abbrev after : Tracker
-  after = fedAll (fresh profile) (broughtBy capture)
+  after = answersFed (freshTracker profile) (broughtBy capture)
 
   pub long : captureLimit < length capture → captureSigned profile ls capture ≡ signed.Refused 11 0
   long h = rw (lt-ltb captureLimit (length capture) h)
@@ -59,18 +60,18 @@ module _ (profile : Profile) (ls : List Line) (capture : List ℕ) where
   short h = rw (le-ltb captureLimit (length capture) h)
 
   -- a sign-off goes on from feeding
-  module _ (f : CaptureFed) (e : f ≡ captureFed (fresh profile) capture) where
-    its-answer : (a : CaptureAnswer) (t : Tracker) → captureFed (fresh profile) capture ≡ record { tracker = t; answer = a } → f .answer ≡ a
+  module _ (f : CaptureFed) (e : f ≡ captureFed (freshTracker profile) capture) where
+    its-answer : (a : CaptureAnswer) (t : Tracker) → captureFed (freshTracker profile) capture ≡ record { tracker = t; answer = a } → f .answer ≡ a
     its-answer a t g = ap (λ (x : CaptureFed). x .answer) (e ∙ g)
 
     pub signs-fed : f .answer ≡ answer.Fed → captureSigned profile ls capture ≡ signOff (f .tracker) ls
     signs-fed fed = go (ltb captureLimit (length capture)) refl
       where
         go : (t : Bool) → ltb captureLimit (length capture) ≡ t → captureSigned profile ls capture ≡ signOff (f .tracker) ls
-        go true g = absurd (fed-not 11 (sym fed ∙ its-answer (answer.Refused 11) (fresh profile) (fed-long (fresh profile) capture (ltb-true _ _ g))))
+        go true g = absurd (fed-not 11 (sym fed ∙ its-answer (answer.Refused 11) (freshTracker profile) (fed-long (freshTracker profile) capture (ltb-true _ _ g))))
         go false g =
             let within = ltb-false captureLimit (length capture) g in
-            short within ∙ ap (λ (x : CaptureFed). signOff (x .tracker) ls) (sym (e ∙ fed-short (fresh profile) capture within))
+            short within ∙ ap (λ (x : CaptureFed). signOff (x .tracker) ls) (sym (e ∙ fed-short (freshTracker profile) capture within))
 
     pub signs-refused : (n : ℕ) → f .answer ≡ answer.Refused n → captureSigned profile ls capture ≡ signed.Refused n 0
     signs-refused n refused = go (ltb captureLimit (length capture)) refl
@@ -78,11 +79,11 @@ module _ (profile : Profile) (ls : List Line) (capture : List ℕ) where
         go : (t : Bool) → ltb captureLimit (length capture) ≡ t → captureSigned profile ls capture ≡ signed.Refused n 0
         go true g =
             let over = ltb-true captureLimit (length capture) g in
-            long over ∙ ap (λ (k : ℕ). signed.Refused k 0) (same-number 11 n (sym (its-answer (answer.Refused 11) (fresh profile) (fed-long (fresh profile) capture over)) ∙ refused))
-        go false g = absurd (fed-not n (sym (its-answer answer.Fed after (fed-short (fresh profile) capture (ltb-false _ _ g))) ∙ refused))
+            long over ∙ ap (λ (k : ℕ). signed.Refused k 0) (same-number 11 n (sym (its-answer (answer.Refused 11) (freshTracker profile) (fed-long (freshTracker profile) capture over)) ∙ refused))
+        go false g = absurd (fed-not n (sym (its-answer answer.Fed after (fed-short (freshTracker profile) capture (ltb-false _ _ g))) ∙ refused))
 
   frames : (at n : ℕ) → firstOf (eventsFrom Answer capture at) ≡ next.Event (event at n kind.Frame)
-      → (a : Brought) × (broughtAt capture (event at n kind.Frame) ≡ a ∷ []) × (frameOf Answer (a .zone) (a .command) (a .answer) (a .body) ≡ bytesAt capture at n)
+      → (a : BroughtAnswer) × (broughtAt capture (event at n kind.Frame) ≡ a ∷ []) × (frameOf Answer (a .zone) (a .command) (a .answer) (a .body) ≡ bytesAt capture at n)
   frames at n e =
       let w = frame-promise .captured Answer capture at n e in
       let bytes = bytesAt capture at n in
@@ -100,7 +101,7 @@ module _ (profile : Profile) (ls : List Line) (capture : List ℕ) where
           let yes = sym (short within) ∙ e in
           (within, sym (its-verdict profile (broughtBy capture) ls) ∙ sign-promise after ls .only yes .0, signed-promise profile (broughtBy capture) ls .answered yes)
 
-  pub capture-promise : CapturePromise profile ls capture
+  pub capture-promise : CaptureSignPromise profile ls capture
   capture-promise = record {
     frames = frames;
     fed = λ h t. let e = fed-short t capture h in (ap (λ (x : CaptureFed). x .tracker) e, ap (λ (x : CaptureFed). x .answer) e);

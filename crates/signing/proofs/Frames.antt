@@ -12,7 +12,7 @@ use lib.Seq.{take-append-seam, drop-append-add}
 use Rattle.frame.specs.Frame.{opens, frameLength, frameOf}
 use Rattle.frame.specs.Reader.{answerTo, takenAfter, answers, takenBy}
 use Rattle.frame.specs.Capture.{event, eventsTold, eventsFrom}
-use Rattle.fields.specs.Fields.{bytesAt}
+use Rattle.lent.specs.Placed.{bytesAt}
 use Rattle.frame.specs.declared.direction.Direction.{Direction}
 use Rattle.frame.specs.declared.direction.Direction.the-variants.{Answer}
 use Rattle.frame.specs.declared.reader.ByteAnswer.{ByteAnswer}
@@ -21,7 +21,7 @@ use Rattle.frame.specs.declared.capture.Kind.the-variants as kind
 use Rattle.frame.proofs.Header.{frame-length}
 use Rattle.fields.proofs.Back.{frame-promise}
 use Rattle.signing.specs.CaptureSignPromise.{BroughtPromise}
-use Rattle.tracker.specs.Feed.{Brought}
+use Rattle.tracker.specs.Feed.{BroughtAnswer}
 use Rattle.signing.specs.Capture.{broughtIn, broughtAll, broughtBy}
 
 -- a reader goes on behind what it was fed
@@ -64,7 +64,7 @@ module _ (front rest : List ℕ) where
       let further : length front + at + n ≡ length front + (at + n) = omega arith in
       ap (λ (bs : List ℕ). broughtIn bs ++ broughtAll (front ++ rest) (eventsTold (length front + at + n) ws left)) (bytes-shift at n)
       ∙ ap (λ (k : ℕ). broughtIn (bytesAt rest at n) ++ broughtAll (front ++ rest) (eventsTold k ws left)) further
-      ∙ ap (λ (xs : List Brought). broughtIn (bytesAt rest at n) ++ xs) (shift ws left (at + n))
+      ∙ ap (λ (xs : List BroughtAnswer). broughtIn (bytesAt rest at n) ++ xs) (shift ws left (at + n))
   shift (Broken n ∷ ws) left at =
       let further : length front + at + n ≡ length front + (at + n) = omega arith in
       ap (λ (k : ℕ). broughtAll (front ++ rest) (eventsTold k ws left)) further ∙ shift ws left (at + n)
@@ -79,7 +79,7 @@ module _ (zone command ac : ℕ) (body rest : List ℕ) where
   abbrev over : ℕ
   over = length (takenBy Answer [] rest)
 
-  abbrev brings : Brought
+  abbrev brings : BroughtAnswer
   brings = record { zone = zone; command = command; answer = ac; body = body }
 
   answers-here : answers Answer [] (frame ++ rest) ≡ replicate (5 + length body) Waiting ++ Frame (frameLength Answer (length body)) ∷ later
@@ -119,8 +119,8 @@ module _ (zone command ac : ℕ) (body rest : List ℕ) where
   brought-behind =
       ap (broughtAll (frame ++ rest)) events-here
       ∙ ap (λ (bs : List ℕ). broughtIn bs ++ broughtAll (frame ++ rest) (eventsTold (length frame + 0) later over)) bytes-here
-      ∙ ap (λ (xs : List Brought). xs ++ broughtAll (frame ++ rest) (eventsTold (length frame + 0) later over)) brought-here
-      ∙ ap (λ (xs : List Brought). brings ∷ xs) (shift frame rest later over 0)
+      ∙ ap (λ (xs : List BroughtAnswer). xs ++ broughtAll (frame ++ rest) (eventsTold (length frame + 0) later over)) brought-here
+      ∙ ap (λ (xs : List BroughtAnswer). brings ∷ xs) (shift frame rest later over 0)
 
 -- no bytes bring nothing, and one frame brings one answer
 pub brought-none : broughtBy [] ≡ []
@@ -130,7 +130,7 @@ brought-none = refl
 pub brought-one : (zone command ac : ℕ) (body : List ℕ) → broughtBy (frameOf Answer zone command ac body) ≡ record { zone = zone; command = command; answer = ac; body = body } ∷ []
 brought-one zone command ac body =
     ap broughtBy (sym (append-nil (frameOf Answer zone command ac body))) ∙ brought-behind zone command ac body []
-    ∙ ap (λ (xs : List Brought). record { zone = zone; command = command; answer = ac; body = body } ∷ xs) brought-none
+    ∙ ap (λ (xs : List BroughtAnswer). record { zone = zone; command = command; answer = ac; body = body } ∷ xs) brought-none
 
 -- a byte outside any frame brings nothing
 noise-here : (b : ℕ) (rest : List ℕ) → (b ≡ opens → ⊥) → broughtBy (b ∷ rest) ≡ broughtBy rest

@@ -2,15 +2,15 @@
 use mathlib.Core.Path.{_≡_}
 use mathlib.Core.List.{List}
 use Prim.Native.Nat.{ℕ}
-use Rattle.frame.specs.OneAnswer.{OneAnswer}
-use Rattle.fields.proofs.OneAnswer.{one}
+use Rattle.refusals.specs.OneAnswer.{OneAnswer}
+use Rattle.refusals.proofs.One.{one}
 use Rattle.row.specs.Profile.{profileOf}
 use Rattle.row.specs.Table.{placeOf}
 use Rattle.row.specs.declared.profile.Profile.{Profile}
 use Rattle.sheet.specs.Sheet.{linesOf}
 use Rattle.sheet.specs.declared.sheet.Sheet.{Sheet}
-use Rattle.tracker.specs.Tracker.{fresh, keptIn}
-use Rattle.tracker.specs.Feed.{fed}
+use Rattle.tracker.specs.Tracker.{freshTracker, keptIn}
+use Rattle.tracker.specs.Feed.{answerFed}
 use Rattle.signing.specs.Sign.{signOff}
 use Rattle.signing.specs.Capture.{captureFed, captureSigned}
 use Rattle.signing.specs.ByLetter.{fileSignedBy, captureCellBy}
@@ -19,14 +19,14 @@ use Rattle.tracker.specs.declared.tracker.Tracker.{Tracker}
 pub row-place-one : (profile : Profile) (command : ℕ) → OneAnswer (λ x. x ≡ placeOf profile command)
 row-place-one profile command = one (placeOf profile command)
 
-pub new-tracker-one : (profile : Profile) → OneAnswer (λ x. x ≡ fresh profile)
-new-tracker-one profile = one (fresh profile)
+pub new-tracker-one : (profile : Profile) → OneAnswer (λ x. x ≡ freshTracker profile)
+new-tracker-one profile = one (freshTracker profile)
 
 pub kept-in-one : (tracker : Tracker) (zone command : ℕ) → OneAnswer (λ x. x ≡ keptIn tracker zone command)
 kept-in-one tracker zone command = one (keptIn tracker zone command)
 
-pub after-answer-one : (tracker : Tracker) (zone command answer : ℕ) (body : List ℕ) → OneAnswer (λ x. x ≡ fed tracker zone command answer body)
-after-answer-one tracker zone command answer body = one (fed tracker zone command answer body)
+pub after-answer-one : (tracker : Tracker) (zone command answer : ℕ) (body : List ℕ) → OneAnswer (λ x. x ≡ answerFed tracker zone command answer body)
+after-answer-one tracker zone command answer body = one (answerFed tracker zone command answer body)
 
 pub after-capture-one : (tracker : Tracker) (capture : List ℕ) → OneAnswer (λ x. x ≡ captureFed tracker capture)
 after-capture-one tracker capture = one (captureFed tracker capture)

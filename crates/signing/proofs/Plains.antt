@@ -6,7 +6,7 @@ use Prim.Native.Nat.{ℕ, _≤_, _<_}
 use borrow.Author.Tests.{ne-eqb, lt-ltb, le-ltb, ltb-true, ltb-false}
 use lib.Dec.{ltb}
 use lib.ListN.{length}
-use Rattle.frame.specs.Refusal.{ruled}
+use Rattle.refusals.specs.Rule.{ruled}
 use Rattle.frame.specs.Capture.{captureLimit}
 use Rattle.row.specs.Profile.{profileOf}
 use Rattle.row.specs.declared.profile.Profile.{Profile}
@@ -19,13 +19,13 @@ use Rattle.sheet.specs.declared.check.Verdict.{Verdict}
 use Rattle.sheet.specs.declared.check.Verdict.the-variants as verdict
 use Rattle.sheetfile.proofs.Trips.{trip-lines, trip-verdict}
 use Rattle.sheetfile.proofs.Plains.{said, both, sheet-read}
-use Rattle.tracker.specs.Tracker.{fresh, keptIn}
-use Rattle.tracker.specs.Feed.{fedAll}
+use Rattle.tracker.specs.Tracker.{freshTracker, keptIn}
+use Rattle.tracker.specs.Feed.{answersFed}
 use Rattle.signing.specs.Sign.{allHold, signedBy}
 use Rattle.signing.specs.Capture.{broughtBy, longCapture, captureFed, captureSigned}
 use Rattle.tracker.specs.Numbers.{keptState, keptByte}
-use Rattle.signing.specs.ByLetter.{fileSigned, shown, captureCell, captureCellNumber, captureCellState, captureCellByte}
-use Rattle.signing.specs.SignByLetterPromise.{PlainPromise, PlainLetter}
+use Rattle.signing.specs.ByLetter.{fileSigned, shownCell, captureCell, captureCellNumber, captureCellState, captureCellByte}
+use Rattle.signing.specs.SignByLetterPromise.{SignByLetterPromise, SignOtherLetter}
 use Rattle.tracker.specs.declared.tracker.Kept.{Kept}
 use Rattle.tracker.specs.declared.tracker.Kept.the-variants as kept
 use Rattle.tracker.specs.declared.tracker.Tracker.{Tracker}
@@ -42,7 +42,7 @@ module _ (profile : Profile) (file capture : List ℕ) where
   lines = linesIn (records file)
 
   abbrev after : Tracker
-  after = fedAll (fresh profile) (broughtBy capture)
+  after = answersFed (freshTracker profile) (broughtBy capture)
 
   pub file-long : captureLimit < length capture → fileSigned profile file capture ≡ signed.Refused 11 0
   file-long h = rw (lt-ltb captureLimit (length capture) h)
@@ -63,39 +63,39 @@ module _ (profile : Profile) (file capture : List ℕ) where
       ∙ sym (within h verdict.Accepted e)
 
 -- a cell goes on from feeding
-module _ (profile : Profile) (capture : List ℕ) (zone command : ℕ) (f : CaptureFed) (e : f ≡ captureFed (fresh profile) capture) where
-  pub cell-fed : f .answer ≡ answer.Fed → captureCell profile capture zone command ≡ shown (keptIn (f .tracker) zone command)
+module _ (profile : Profile) (capture : List ℕ) (zone command : ℕ) (f : CaptureFed) (e : f ≡ captureFed (freshTracker profile) capture) where
+  pub cell-fed : f .answer ≡ answer.Fed → captureCell profile capture zone command ≡ shownCell (keptIn (f .tracker) zone command)
   cell-fed fed = go (ltb captureLimit (length capture)) refl
     where
-      go : (t : Bool) → ltb captureLimit (length capture) ≡ t → captureCell profile capture zone command ≡ shown (keptIn (f .tracker) zone command)
-      go true g = absurd (fed-not 11 (sym fed ∙ ap (λ (x : CaptureFed). x .answer) (e ∙ fed-long (fresh profile) capture (ltb-true _ _ g))))
+      go : (t : Bool) → ltb captureLimit (length capture) ≡ t → captureCell profile capture zone command ≡ shownCell (keptIn (f .tracker) zone command)
+      go true g = absurd (fed-not 11 (sym fed ∙ ap (λ (x : CaptureFed). x .answer) (e ∙ fed-long (freshTracker profile) capture (ltb-true _ _ g))))
       go false g =
-          rw g (ap (λ (x : CaptureFed). shown (keptIn (x .tracker) zone command)) (sym (e ∙ fed-short (fresh profile) capture (ltb-false _ _ g))))
+          rw g (ap (λ (x : CaptureFed). shownCell (keptIn (x .tracker) zone command)) (sym (e ∙ fed-short (freshTracker profile) capture (ltb-false _ _ g))))
 
   pub cell-refused : (n : ℕ) → f .answer ≡ answer.Refused n → captureCell profile capture zone command ≡ cell.Refused n
   cell-refused n refused = go (ltb captureLimit (length capture)) refl
     where
       go : (t : Bool) → ltb captureLimit (length capture) ≡ t → captureCell profile capture zone command ≡ cell.Refused n
       go true g =
-          rw g (ap cell.Refused (same-number 11 n (sym (ap (λ (x : CaptureFed). x .answer) (e ∙ fed-long (fresh profile) capture (ltb-true _ _ g))) ∙ refused)))
-      go false g = absurd (fed-not n (sym (ap (λ (x : CaptureFed). x .answer) (e ∙ fed-short (fresh profile) capture (ltb-false _ _ g))) ∙ refused))
+          rw g (ap cell.Refused (same-number 11 n (sym (ap (λ (x : CaptureFed). x .answer) (e ∙ fed-long (freshTracker profile) capture (ltb-true _ _ g))) ∙ refused)))
+      go false g = absurd (fed-not n (sym (ap (λ (x : CaptureFed). x .answer) (e ∙ fed-short (freshTracker profile) capture (ltb-false _ _ g))) ∙ refused))
 
-shown-state : (k : Kept) → (captureCellNumber (shown k) ≡ 0) × (captureCellState (shown k) ≡ keptState k) × (captureCellByte (shown k) ≡ keptByte k)
+shown-state : (k : Kept) → (captureCellNumber (shownCell k) ≡ 0) × (captureCellState (shownCell k) ≡ keptState k) × (captureCellByte (shownCell k) ≡ keptByte k)
 shown-state (kept.Value b) = (refl, refl, refl)
 shown-state kept.Unknown = (refl, refl, refl)
 shown-state kept.NoCell = (refl, refl, refl)
 
-pub plain-promise : (letter : ℕ) (profile : Profile) (n : profileOf letter ≡ named.Profile profile) (capture : List ℕ) → PlainPromise letter profile n capture
+pub plain-promise : (letter : ℕ) (profile : Profile) (n : profileOf letter ≡ named.Profile profile) (capture : List ℕ) → SignByLetterPromise letter profile n capture
 plain-promise letter profile n capture = record {
   signs = λ ls.
-      let t = fedAll (fresh profile) (broughtBy capture) in
+      let t = answersFed (freshTracker profile) (broughtBy capture) in
       rw (n, trip-verdict profile ls, trip-lines profile ls)
       (ap (λ (v : Verdict). ruled (longCapture capture ∷ []) (λ m. signed.Refused m 0) (signedBy v (allHold t ls))) (sym (its-verdict profile (broughtBy capture) ls)));
   shows = λ h zone command.
-      rw (n, le-ltb captureLimit (length capture) h) (shown-state (keptIn (fedAll (fresh profile) (broughtBy capture)) zone command));
+      rw (n, le-ltb captureLimit (length capture) h) (shown-state (keptIn (answersFed (freshTracker profile) (broughtBy capture)) zone command));
   eleven = λ h file zone command. rw (n, lt-ltb captureLimit (length capture) h) (refl, refl);
 }
 
-pub plain-letter : (letter : ℕ) (file capture : List ℕ) (zone command : ℕ) → PlainLetter letter file capture zone command
+pub plain-letter : (letter : ℕ) (file capture : List ℕ) (zone command : ℕ) → SignOtherLetter letter file capture zone command
 unfolding profileOf
 plain-letter letter file capture zone command = record { twelve = λ a s. rw (ne-eqb letter 0x41 a, ne-eqb letter 0x53 s) (refl, refl, refl) }

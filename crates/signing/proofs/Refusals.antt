@@ -6,21 +6,21 @@ use mathlib.Core.Logic.{inl, inr}
 use Prim.Native.Nat.{ℕ, _≤_}
 use native.Mathlib.Omega.{arith}
 use lib.ListN.{getD}
-use Rattle.frame.specs.Refusal.{Line}
+use Rattle.refusals.specs.Rule.{Rule}
 use Rattle.fields.specs.Raw.{tooLong}
-use Rattle.frame.specs.RulePromise.{First}
+use Rattle.refusals.specs.RulePromise.{FirstApplies}
 use Rattle.frame.specs.declared.direction.Direction.the-variants.{Answer}
 use Rattle.row.specs.declared.profile.Profile.{Profile}
-use Rattle.judging.specs.Judge.{judgeLines}
-use Rattle.message.specs.Message.{isDenial, wrongCode, readLines}
-use Rattle.message.specs.Numbers.{readingNumber, readingPaper, zeros}
+use Rattle.judging.specs.Judge.{judgeRules}
+use Rattle.message.specs.Message.{isDenial, wrongCode, readRules}
+use Rattle.message.specs.Numbers.{readingNumber, readingPaper, zeroPaper}
 use Rattle.message.specs.declared.read.Reading.{Reading}
 use Rattle.message.specs.declared.read.Reading.the-variants as reading
 use Rattle.message.proofs.Order.{order-promise}
-use Rattle.tracker.specs.Feed.{heard}
-use Rattle.tracker.specs.FeedPromise.{answered}
+use Rattle.tracker.specs.Feed.{toldBy}
+use Rattle.tracker.specs.FeedPromise.{answerRead}
 use Rattle.signing.specs.Numbers.{signedNumber, signedPlace, signedYes, captureNumber}
-use Rattle.signing.specs.SignRefusalPromise.{RefusalPromise}
+use Rattle.signing.specs.SignRefusalPromise.{SignRefusalPromise}
 use Rattle.tracker.specs.declared.tracker.Tracker.{Tracker}
 use Rattle.signing.specs.declared.capture.CaptureFed.{CaptureFed}
 use Rattle.signing.proofs.Signs.{sign-promise}
@@ -30,34 +30,34 @@ use Rattle.signing.proofs.CaptureSigns.{fed-long, capture-promise}
 abbrev OneToFive : ℕ → Type 0
 OneToFive n = (1 ≤ n) × (n ≤ 5)
 
-abbrev Numbered : List Line → Type 0
+abbrev Numbered : List Rule → Type 0
 Numbered [] = Unit {0}
 Numbered (l ∷ ls) = OneToFive (l .number) × Numbered ls
 
-first-numbered : (ls : List Line) (n : ℕ) → Numbered ls → First ls n → OneToFive n
+first-numbered : (ls : List Rule) (n : ℕ) → Numbered ls → FirstApplies ls n → OneToFive n
 first-numbered [] n w f = absurd f
 first-numbered (l ∷ ls) n w (inl f) = subst OneToFive (f .1) (w .0)
 first-numbered (l ∷ ls) n w (inr f) = first-numbered ls n (w .1) (f .1)
 
-lines-numbered : (profile : Profile) (zone command ac : ℕ) (body : List ℕ) → Numbered (readLines profile Answer zone command ac body)
+lines-numbered : (profile : Profile) (zone command ac : ℕ) (body : List ℕ) → Numbered (readRules profile Answer zone command ac body)
 lines-numbered profile zone command ac body = go (isDenial ac)
   where
-    go : (t : Bool) → Numbered (wrongCode ac ∷ cond t (tooLong body ∷ []) (judgeLines profile Answer zone command body))
+    go : (t : Bool) → Numbered (wrongCode ac ∷ cond t (tooLong body ∷ []) (judgeRules profile Answer zone command body))
     go true = ((omega arith, omega arith), ((omega arith, omega arith), tt))
     go false = ((omega arith, omega arith), ((omega arith, omega arith), ((omega arith, omega arith), ((omega arith, omega arith), ((omega arith, omega arith), ((omega arith, omega arith), tt))))))
 
 -- a refused answer, whatever the first byte of its data is
-kept : (t : Tracker) (r : Reading) (b : ℕ) (body : List ℕ) → (readingNumber r ≡ 0 → ⊥) → (heard t r b ≡ t) × (readingPaper (heard t r b .profile) r body ≡ zeros)
+kept : (t : Tracker) (r : Reading) (b : ℕ) (body : List ℕ) → (readingNumber r ≡ 0 → ⊥) → (toldBy t r b ≡ t) × (readingPaper (toldBy t r b .profile) r body ≡ zeroPaper)
 kept t (reading.Message m) b body e = absurd (e refl)
 kept t (reading.Refused n) b body e = (refl, refl)
 
-pub refusal-promise : (t : Tracker) → RefusalPromise t
+pub refusal-promise : (t : Tracker) → SignRefusalPromise t
 refusal-promise t = record {
   passed = λ zone command ac body. refl;
   numbered = λ zone command ac body n e.
-      first-numbered (readLines (t .profile) Answer zone command ac body) n (lines-numbered (t .profile) zone command ac body)
+      first-numbered (readRules (t .profile) Answer zone command ac body) n (lines-numbered (t .profile) zone command ac body)
       (order-promise (t .profile) Answer zone command ac body .applies n e);
-  kept = λ zone command ac body. kept t (answered t zone command ac body) (getD body 0 0) body;
+  kept = λ zone command ac body. kept t (answerRead t zone command ac body) (getD body 0 0) body;
   sheet = λ ls n i e.
       let r = sign-promise t ls .refused n i e in
       (ap signedNumber r, ap signedPlace r, ap signedYes r);

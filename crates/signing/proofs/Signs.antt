@@ -20,11 +20,11 @@ use Rattle.sheet.proofs.Faults.{first-many}
 use Rattle.sheet.proofs.Sheets.{sheet-promise}
 use Rattle.sheet.proofs.Repeats.{here}
 use Rattle.tracker.specs.Cell.{cellOf}
-use Rattle.tracker.specs.Tracker.{fresh, keptAt, keptIn}
-use Rattle.tracker.specs.Feed.{Brought, fedAll}
+use Rattle.tracker.specs.Tracker.{freshTracker, keptAt, keptIn}
+use Rattle.tracker.specs.Feed.{BroughtAnswer, answersFed}
 use Rattle.signing.specs.Sign.{holdsIn, holds, allHold, yesOrNo, signedBy}
 use Rattle.tracker.specs.HistoryPromise.{NoneOf, Last, HistoryPromise}
-use Rattle.signing.specs.SignPromise.{AllHold, AllAnswered, SignPromise, SignedPromise}
+use Rattle.signing.specs.SignPromise.{AllHold, AllAnswered, SignPromise, SignHistoryPromise}
 use Rattle.tracker.specs.declared.cell.Cell.{Cell}
 use Rattle.tracker.specs.declared.cell.Cell.the-variants as cell
 use Rattle.tracker.specs.declared.tracker.Tracker.{Tracker}
@@ -101,9 +101,9 @@ sign-promise t ls = record {
 }
 
 -- what is known was said by the last status answer
-module _ (profile : Profile) (fs : List Brought) where
+module _ (profile : Profile) (fs : List BroughtAnswer) where
   abbrev t : Tracker
-  t = fedAll (fresh profile) fs
+  t = answersFed (freshTracker profile) fs
 
   same : (a b : ℕ) → kept.Value a ≡ kept.Value b → a ≡ b
   same a b e = cc
@@ -149,7 +149,7 @@ module _ (profile : Profile) (fs : List Brought) where
   pub its-verdict : (ls : List Line) → sheetVerdict (t .profile) ls ≡ sheetVerdict profile ls
   its-verdict ls = ap (λ (p : Profile). sheetVerdict p ls) (all-profile profile fs)
 
-  pub signed-promise : (ls : List Line) → SignedPromise profile fs ls
+  pub signed-promise : (ls : List Line) → SignHistoryPromise profile fs ls
   signed-promise ls = record {
     answered = λ e. all-last ls (sign-promise t ls .only e .1);
     signed = λ a w. sign-promise t ls .yes (its-verdict ls ∙ a) (all-known [] ls (sheet-promise profile ls .only a .1) w);

@@ -4,7 +4,8 @@ use mathlib.Core.List.{List, [], _∷_, _++_}
 use Prim.Native.Nat.{ℕ}
 use Rattle.frame.specs.Reader.{answerTo, takenAfter, answers, takenBy}
 use Rattle.frame.specs.Capture.{eventsTold, eventsFrom}
-use Rattle.fields.specs.Fields.{isFrame, bytesAt}
+use Rattle.fields.specs.Fields.{isFrame}
+use Rattle.lent.specs.Placed.{bytesAt}
 use Rattle.row.specs.Table.{table, firstRow, firstPlace}
 use Rattle.row.specs.declared.profile.Profile.the-variants.{A, S}
 use Rattle.judging.specs.Judge.{rowJudged}
@@ -13,8 +14,8 @@ use Rattle.sheet.specs.Line.{isLegal, isRepeated}
 use Rattle.sheet.specs.Check.{lowestFault, sheetVerdict}
 use Rattle.sheet.specs.declared.line.Line.{Line}
 use Rattle.tracker.specs.Cell.{cellOf}
-use Rattle.tracker.specs.Tracker.{fresh, keptIn}
-use Rattle.tracker.specs.Feed.{after, Brought, fedAll}
+use Rattle.tracker.specs.Tracker.{freshTracker, keptIn}
+use Rattle.tracker.specs.Feed.{afterAnswer, BroughtAnswer, answersFed}
 use Rattle.signing.specs.Sign.{allHold, signOff}
 use Rattle.signing.specs.Capture.{broughtAll, captureSigned}
 use Rattle.tracker.specs.declared.cell.Cell.the-variants.{At}
@@ -23,7 +24,7 @@ use Rattle.tracker.specs.declared.tracker.Kept.the-variants.{Value, Unknown, No
 use Rattle.signing.specs.declared.sign.Signed.the-variants.{Yes, No, Refused}
 
 abbrev levelled : Tracker
-levelled = after (fresh A) 2 0x39 0x00 (0xFF ∷ [])
+levelled = afterAnswer (freshTracker A) 2 0x39 0x00 (0xFF ∷ [])
 
 pub has-cell : cellOf A 2 0x39 ≡ At 16
 unfolding cellOf rowJudged firstRow firstPlace table
@@ -39,20 +40,20 @@ unfolding keptIn cellOf readOf rowJudged firstRow firstPlace table
 beside-unknown = refl
 
 -- the last answer counts, a denial changes nothing, and a refused answer changes nothing
-pub last-known : keptIn (after levelled 2 0x39 0x00 (0x05 ∷ [])) 2 0x39 ≡ Value 0x05
+pub last-known : keptIn (afterAnswer levelled 2 0x39 0x00 (0x05 ∷ [])) 2 0x39 ≡ Value 0x05
 unfolding keptIn cellOf readOf rowJudged firstRow firstPlace table
 last-known = refl
 
-pub denied-kept : keptIn (after levelled 2 0x39 0x85 (0x05 ∷ [])) 2 0x39 ≡ Value 0xFF
+pub denied-kept : keptIn (afterAnswer levelled 2 0x39 0x85 (0x05 ∷ [])) 2 0x39 ≡ Value 0xFF
 unfolding keptIn cellOf readOf rowJudged firstRow firstPlace table
 denied-kept = refl
 
-pub refused-kept : keptIn (after levelled 2 0x39 0x00 (0x0B ∷ [])) 2 0x39 ≡ Value 0xFF
+pub refused-kept : keptIn (afterAnswer levelled 2 0x39 0x00 (0x0B ∷ [])) 2 0x39 ≡ Value 0xFF
 unfolding keptIn cellOf readOf rowJudged firstRow firstPlace table
 refused-kept = refl
 
 -- S 0F has no cell
-pub direct-none : keptIn (after (fresh S) 1 0x0F 0x00 (0x01 ∷ 0x01 ∷ [])) 1 0x0F ≡ NoCell
+pub direct-none : keptIn (afterAnswer (freshTracker S) 1 0x0F 0x00 (0x01 ∷ 0x01 ∷ [])) 1 0x0F ≡ NoCell
 unfolding keptIn cellOf readOf rowJudged firstRow firstPlace table
 direct-none = refl
 
@@ -61,37 +62,37 @@ direct-none = refl
 abbrev line : ℕ → ℕ → ℕ → Line
 line zone command value = record { zone = zone; command = command; value = value }
 
-abbrev answer : ℕ → ℕ → ℕ → ℕ → Brought
+abbrev answer : ℕ → ℕ → ℕ → ℕ → BroughtAnswer
 answer zone command ac value = record { zone = zone; command = command; answer = ac; body = value ∷ [] }
 
 abbrev two : List Line
 two = line 2 0x39 0xFF ∷ line 1 0x38 0x02 ∷ []
 
-abbrev history : List Brought
+abbrev history : List BroughtAnswer
 history = answer 1 0x38 0x00 0x01 ∷ answer 2 0x39 0x00 0xFF ∷ answer 1 0x38 0x00 0x02 ∷ []
 
-abbrev heard : List Brought → Tracker
-heard fs = fedAll (fresh A) fs
+abbrev heard : List BroughtAnswer → Tracker
+heard fs = answersFed (freshTracker A) fs
 
 pub signed-yes : signOff (heard history) two ≡ Yes
-unfolding fedAll allHold keptIn cellOf readOf rowJudged firstRow firstPlace table sheetVerdict lowestFault isLegal isRepeated
+unfolding answersFed allHold keptIn cellOf readOf rowJudged firstRow firstPlace table sheetVerdict lowestFault isLegal isRepeated
 signed-yes = refl
 
 pub denied-yes : signOff (heard (history ++ answer 1 0x38 0x85 0x01 ∷ [])) two ≡ Yes
-unfolding fedAll allHold keptIn cellOf readOf rowJudged firstRow firstPlace table sheetVerdict lowestFault isLegal isRepeated
+unfolding answersFed allHold keptIn cellOf readOf rowJudged firstRow firstPlace table sheetVerdict lowestFault isLegal isRepeated
 denied-yes = refl
 
 pub stale-no : signOff (heard (history ++ answer 1 0x38 0x00 0x01 ∷ [])) two ≡ No
-unfolding fedAll allHold keptIn cellOf readOf rowJudged firstRow firstPlace table sheetVerdict lowestFault isLegal isRepeated
+unfolding answersFed allHold keptIn cellOf readOf rowJudged firstRow firstPlace table sheetVerdict lowestFault isLegal isRepeated
 stale-no = refl
 
 pub unknown-no : signOff (heard history) (two ++ line 1 0x39 0xFF ∷ []) ≡ No
-unfolding fedAll allHold keptIn cellOf readOf rowJudged firstRow firstPlace table sheetVerdict lowestFault isLegal isRepeated
+unfolding answersFed allHold keptIn cellOf readOf rowJudged firstRow firstPlace table sheetVerdict lowestFault isLegal isRepeated
 unknown-no = refl
 
 -- the sheet's refusal; and a sheet of no lines
 pub signed-refused : signOff (heard history) (line 2 0x39 0xFF ∷ line 2 0x39 0x0B ∷ []) ≡ Refused 7 1
-unfolding fedAll allHold keptIn cellOf readOf rowJudged firstRow firstPlace table sheetVerdict lowestFault isLegal isRepeated
+unfolding answersFed allHold keptIn cellOf readOf rowJudged firstRow firstPlace table sheetVerdict lowestFault isLegal isRepeated
 signed-refused = refl
 
 pub none-signed : (t : Tracker) → signOff t [] ≡ Yes
@@ -109,10 +110,10 @@ whole =
     ∷ []
 
 pub capture-yes : captureSigned A two (whole ++ 0x21 ∷ 0x01 ∷ []) ≡ Yes
-unfolding fedAll allHold keptIn cellOf readOf rowJudged firstRow firstPlace table sheetVerdict lowestFault isLegal isRepeated broughtAll eventsFrom eventsTold answers takenBy answerTo takenAfter bytesAt isFrame
+unfolding answersFed allHold keptIn cellOf readOf rowJudged firstRow firstPlace table sheetVerdict lowestFault isLegal isRepeated broughtAll eventsFrom eventsTold answers takenBy answerTo takenAfter bytesAt isFrame
 capture-yes = refl
 
 -- one answer more that shows another value
 pub capture-no : captureSigned A two (whole ++ 0x21 ∷ 0x01 ∷ 0x38 ∷ 0x00 ∷ 0x01 ∷ 0x01 ∷ 0x0D ∷ []) ≡ No
-unfolding fedAll allHold keptIn cellOf readOf rowJudged firstRow firstPlace table sheetVerdict lowestFault isLegal isRepeated broughtAll eventsFrom eventsTold answers takenBy answerTo takenAfter bytesAt isFrame
+unfolding answersFed allHold keptIn cellOf readOf rowJudged firstRow firstPlace table sheetVerdict lowestFault isLegal isRepeated broughtAll eventsFrom eventsTold answers takenBy answerTo takenAfter bytesAt isFrame
 capture-no = refl

@@ -2,13 +2,13 @@
 -- then the file's refusals.
 use Prim.Native.Nat.{ℕ}
 use mathlib.Core.List.{List, [], _∷_}
-use Rattle.frame.specs.Refusal.{ruled}
+use Rattle.refusals.specs.Rule.{ruled}
 use Rattle.row.specs.declared.profile.Profile.{Profile}
 use Rattle.row.specs.declared.profile.Named.{Named}
 use Rattle.row.specs.declared.profile.Named.the-variants as named
 use Rattle.sheetfile.specs.File.{records, linesIn, fileVerdict}
-use Rattle.tracker.specs.Tracker.{fresh, keptIn}
-use Rattle.tracker.specs.Feed.{fedAll}
+use Rattle.tracker.specs.Tracker.{freshTracker, keptIn}
+use Rattle.tracker.specs.Feed.{answersFed}
 use Rattle.signing.specs.Sign.{allHold, signedBy}
 use Rattle.signing.specs.Capture.{broughtBy, longCapture}
 use Rattle.tracker.specs.declared.tracker.Kept.{Kept}
@@ -21,21 +21,21 @@ use Rattle.signing.specs.declared.by_letter.CaptureCell.the-variants as 
 abbrev pub fileSigned : Profile → List ℕ → List ℕ → Signed
 fileSigned profile file capture =
     ruled (longCapture capture ∷ []) (λ n. signed.Refused n 0)
-    (signedBy (fileVerdict profile file) (allHold (fedAll (fresh profile) (broughtBy capture)) (linesIn (records file))))
+    (signedBy (fileVerdict profile file) (allHold (answersFed (freshTracker profile) (broughtBy capture)) (linesIn (records file))))
 
 abbrev pub fileSignedBy : Named → List ℕ → List ℕ → Signed
 fileSignedBy (named.Profile profile) file capture = fileSigned profile file capture
 fileSignedBy (named.Refused n) file capture = signed.Refused n 0
 
 -- what a tracker made new knows of a row and zone once a capture was fed to it
-abbrev pub shown : Kept → CaptureCell
-shown (kept.Value b) = cell.Value b
-shown kept.Unknown = cell.Unknown
-shown kept.NoCell = cell.NoCell
+abbrev pub shownCell : Kept → CaptureCell
+shownCell (kept.Value b) = cell.Value b
+shownCell kept.Unknown = cell.Unknown
+shownCell kept.NoCell = cell.NoCell
 
 abbrev pub captureCell : Profile → List ℕ → ℕ → ℕ → CaptureCell
 captureCell profile capture zone command =
-    ruled (longCapture capture ∷ []) cell.Refused (shown (keptIn (fedAll (fresh profile) (broughtBy capture)) zone command))
+    ruled (longCapture capture ∷ []) cell.Refused (shownCell (keptIn (answersFed (freshTracker profile) (broughtBy capture)) zone command))
 
 abbrev pub captureCellBy : Named → List ℕ → ℕ → ℕ → CaptureCell
 captureCellBy (named.Profile profile) capture zone command = captureCell profile capture zone command

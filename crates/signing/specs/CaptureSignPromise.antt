@@ -7,7 +7,7 @@ use Prim.Native.Nat.{ℕ, _≤_, _<_}
 use lib.ListN.{length}
 use Rattle.frame.specs.Frame.{opens, frameOf}
 use Rattle.frame.specs.Capture.{captureLimit, event, eventsFrom, firstOf}
-use Rattle.fields.specs.Fields.{bytesAt}
+use Rattle.lent.specs.Placed.{bytesAt}
 use Rattle.frame.specs.declared.direction.Direction.the-variants.{Answer}
 use Rattle.frame.specs.declared.capture.Kind.the-variants as kind
 use Rattle.frame.specs.declared.capture.Next.the-variants as next
@@ -15,7 +15,7 @@ use Rattle.row.specs.declared.profile.Profile.{Profile}
 use Rattle.sheet.specs.Check.{sheetVerdict}
 use Rattle.sheet.specs.declared.line.Line.{Line}
 use Rattle.sheet.specs.declared.check.Verdict.the-variants as verdict
-use Rattle.tracker.specs.Feed.{Brought, fedAll}
+use Rattle.tracker.specs.Feed.{BroughtAnswer, answersFed}
 use Rattle.signing.specs.SignPromise.{AllAnswered}
 use Rattle.signing.specs.Capture.{broughtAt, broughtBy, captureFed, captureSigned}
 use Rattle.tracker.specs.declared.tracker.Tracker.{Tracker}
@@ -31,10 +31,10 @@ pub record BroughtPromise : Type 0 where
   pub others : (capture : List ℕ) (at n : ℕ) → (broughtAt capture (event at n kind.Broken) ≡ [])
       × (broughtAt capture (event at n kind.Noise) ≡ []) × (broughtAt capture (event at n kind.Pending) ≡ [])
 
-pub record CapturePromise (profile : Profile) (ls : List Line) (capture : List ℕ) : Type 0 where
+pub record CaptureSignPromise (profile : Profile) (ls : List Line) (capture : List ℕ) : Type 0 where
   pub frames : (at n : ℕ) → firstOf (eventsFrom Answer capture at) ≡ next.Event (event at n kind.Frame)
-      → (a : Brought) × (broughtAt capture (event at n kind.Frame) ≡ a ∷ []) × (frameOf Answer (a .zone) (a .command) (a .answer) (a .body) ≡ bytesAt capture at n)
-  pub fed : length capture ≤ captureLimit → (t : Tracker) → (captureFed t capture .tracker ≡ fedAll t (broughtBy capture)) × (captureFed t capture .answer ≡ answer.Fed)
+      → (a : BroughtAnswer) × (broughtAt capture (event at n kind.Frame) ≡ a ∷ []) × (frameOf Answer (a .zone) (a .command) (a .answer) (a .body) ≡ bytesAt capture at n)
+  pub fed : length capture ≤ captureLimit → (t : Tracker) → (captureFed t capture .tracker ≡ answersFed t (broughtBy capture)) × (captureFed t capture .answer ≡ answer.Fed)
   pub long : captureLimit < length capture → captureSigned profile ls capture ≡ Refused 11 0
   pub refused : length capture ≤ captureLimit → (n i : ℕ) → sheetVerdict profile ls ≡ verdict.Refused n i → captureSigned profile ls capture ≡ Refused n i
   pub yes : length capture ≤ captureLimit → sheetVerdict profile ls ≡ verdict.Accepted → AllAnswered profile (broughtBy capture) ls

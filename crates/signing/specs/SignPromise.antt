@@ -8,8 +8,8 @@ use Rattle.row.specs.declared.profile.Profile.{Profile}
 use Rattle.sheet.specs.Check.{sheetVerdict}
 use Rattle.sheet.specs.declared.line.Line.{Line}
 use Rattle.sheet.specs.declared.check.Verdict.the-variants as verdict
-use Rattle.tracker.specs.Tracker.{fresh, keptIn}
-use Rattle.tracker.specs.Feed.{Brought, fedAll}
+use Rattle.tracker.specs.Tracker.{freshTracker, keptIn}
+use Rattle.tracker.specs.Feed.{BroughtAnswer, answersFed}
 use Rattle.signing.specs.Sign.{signOff}
 use Rattle.tracker.specs.HistoryPromise.{Last}
 use Rattle.tracker.specs.declared.tracker.Tracker.{Tracker}
@@ -22,7 +22,7 @@ AllHold t [] = Unit {0}
 AllHold t (l ∷ ls) = (keptIn t (l .zone) (l .command) ≡ Value (l .value)) × AllHold t ls
 
 -- every line's value is that of the last status answer of its zone and row
-abbrev pub AllAnswered : Profile → List Brought → List Line → Type 0
+abbrev pub AllAnswered : Profile → List BroughtAnswer → List Line → Type 0
 AllAnswered profile fs [] = Unit {0}
 AllAnswered profile fs (l ∷ ls) = Last profile (l .zone) (l .command) fs (l .value) × AllAnswered profile fs ls
 
@@ -33,7 +33,7 @@ pub record SignPromise (t : Tracker) (ls : List Line) : Type 0 where
   pub only : signOff t ls ≡ Yes → (sheetVerdict (t .profile) ls ≡ verdict.Accepted) × AllHold t ls
 
 -- after any answers
-pub record SignedPromise (profile : Profile) (fs : List Brought) (ls : List Line) : Type 0 where
-  pub answered : signOff (fedAll (fresh profile) fs) ls ≡ Yes → AllAnswered profile fs ls
-  pub signed : sheetVerdict profile ls ≡ verdict.Accepted → AllAnswered profile fs ls → signOff (fedAll (fresh profile) fs) ls ≡ Yes
-  pub unsigned : sheetVerdict profile ls ≡ verdict.Accepted → (AllAnswered profile fs ls → ⊥) → signOff (fedAll (fresh profile) fs) ls ≡ No
+pub record SignHistoryPromise (profile : Profile) (fs : List BroughtAnswer) (ls : List Line) : Type 0 where
+  pub answered : signOff (answersFed (freshTracker profile) fs) ls ≡ Yes → AllAnswered profile fs ls
+  pub signed : sheetVerdict profile ls ≡ verdict.Accepted → AllAnswered profile fs ls → signOff (answersFed (freshTracker profile) fs) ls ≡ Yes
+  pub unsigned : sheetVerdict profile ls ≡ verdict.Accepted → (AllAnswered profile fs ls → ⊥) → signOff (answersFed (freshTracker profile) fs) ls ≡ No

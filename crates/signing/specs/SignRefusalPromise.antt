@@ -7,13 +7,13 @@ use Prim.Native.Nat.{ℕ, _≤_, _<_}
 use lib.ListN.{length}
 use Rattle.frame.specs.Capture.{captureLimit}
 use Rattle.row.specs.declared.profile.Profile.{Profile}
-use Rattle.message.specs.Numbers.{readingNumber, zeros}
+use Rattle.message.specs.Numbers.{readingNumber, zeroPaper}
 use Rattle.message.specs.declared.read.Reading.the-variants as reading
 use Rattle.sheet.specs.Check.{sheetVerdict}
 use Rattle.sheet.specs.declared.line.Line.{Line}
 use Rattle.sheet.specs.declared.check.Verdict.the-variants as verdict
-use Rattle.tracker.specs.Feed.{fed}
-use Rattle.tracker.specs.FeedPromise.{answered}
+use Rattle.tracker.specs.Feed.{answerFed}
+use Rattle.tracker.specs.FeedPromise.{answerRead}
 use Rattle.signing.specs.Sign.{signOff}
 use Rattle.signing.specs.Capture.{captureFed, captureSigned}
 use Rattle.tracker.specs.Numbers.{fedNumber, fedPaper}
@@ -21,11 +21,11 @@ use Rattle.signing.specs.Numbers.{signedNumber, signedPlace, signedYes, 
 use Rattle.tracker.specs.declared.tracker.Tracker.{Tracker}
 use Rattle.signing.specs.declared.sign.Signed.the-variants.{Yes, No}
 
-pub record RefusalPromise (t : Tracker) : Type 0 where
-  pub passed : (zone command ac : ℕ) (body : List ℕ) → fedNumber (fed t zone command ac body) ≡ readingNumber (answered t zone command ac body)
-  pub numbered : (zone command ac : ℕ) (body : List ℕ) (n : ℕ) → answered t zone command ac body ≡ reading.Refused n → (1 ≤ n) × (n ≤ 5)
-  pub kept : (zone command ac : ℕ) (body : List ℕ) → (fedNumber (fed t zone command ac body) ≡ 0 → ⊥)
-      → (fed t zone command ac body .tracker ≡ t) × (fedPaper (fed t zone command ac body) body ≡ zeros)
+pub record SignRefusalPromise (t : Tracker) : Type 0 where
+  pub passed : (zone command ac : ℕ) (body : List ℕ) → fedNumber (answerFed t zone command ac body) ≡ readingNumber (answerRead t zone command ac body)
+  pub numbered : (zone command ac : ℕ) (body : List ℕ) (n : ℕ) → answerRead t zone command ac body ≡ reading.Refused n → (1 ≤ n) × (n ≤ 5)
+  pub kept : (zone command ac : ℕ) (body : List ℕ) → (fedNumber (answerFed t zone command ac body) ≡ 0 → ⊥)
+      → (answerFed t zone command ac body .tracker ≡ t) × (fedPaper (answerFed t zone command ac body) body ≡ zeroPaper)
   pub sheet : (ls : List Line) (n i : ℕ) → sheetVerdict (t .profile) ls ≡ verdict.Refused n i
       → (signedNumber (signOff t ls) ≡ n) × (signedPlace (signOff t ls) ≡ i) × (signedYes (signOff t ls) ≡ 0)
   pub long : (capture : List ℕ) → captureLimit < length capture
@@ -35,4 +35,4 @@ pub record RefusalPromise (t : Tracker) : Type 0 where
   -- what is no refusal: 1 for yes and 0 for no
   pub yes : (ls : List Line) → signOff t ls ≡ Yes → (signedNumber (signOff t ls) ≡ 0) × (signedPlace (signOff t ls) ≡ 0) × (signedYes (signOff t ls) ≡ 1)
   pub no : (ls : List Line) → signOff t ls ≡ No → (signedNumber (signOff t ls) ≡ 0) × (signedPlace (signOff t ls) ≡ 0) × (signedYes (signOff t ls) ≡ 0)
-  pub fed : (capture : List ℕ) → length capture ≤ captureLimit → captureNumber (captureFed t capture .answer) ≡ 0
+  pub answerFed : (capture : List ℕ) → length capture ≤ captureLimit → captureNumber (captureFed t capture .answer) ≡ 0

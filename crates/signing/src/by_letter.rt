@@ -13,7 +13,7 @@ use tracker::tracker::kept_in;
 use tracker::tracker::new_tracker;
 ghost use mathlib.Core.Path.{_≡_};
 ghost use Rattle.row.specs.Profile.{profileOf};
-ghost use Rattle.signing.specs.ByLetter.{fileSigned, fileSignedBy, shown, captureCell, captureCellBy};
+ghost use Rattle.signing.specs.ByLetter.{fileSigned, fileSignedBy, shownCell, captureCell, captureCellBy};
 
 // What a capture of answers makes known of a row and zone, or the number of the refusal.
 pub enum CaptureCell {
@@ -72,7 +72,7 @@ fn cell_by(profile: Profile, capture: &[u8], zone: u8, command: u8) -> CaptureCe
 }
 
 fn show(kept: Kept) -> CaptureCell
-    ensures { λ r. ⌜ r ≡ shown kept ⌝ }
+    ensures { λ r. ⌜ r ≡ shownCell kept ⌝ }
 {
     match kept {
         Kept::Value(value) => CaptureCell::Value(value),

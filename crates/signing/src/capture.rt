@@ -1,7 +1,6 @@
 use crate::sign::Signed;
 use crate::sign::sign_sheet;
 use fields::fields::Brought;
-use fields::fields::bytes_at;
 use fields::fields::frame_data;
 use fields::fields::frame_fields;
 use frame::capture::CAPTURE_LIMIT;
@@ -10,6 +9,7 @@ use frame::capture::Kind;
 use frame::capture::Next;
 use frame::capture::next_event;
 use frame::direction::Direction;
+use lent::part::bytes_at;
 use row::profile::Profile;
 use sheet::sheet::Sheet;
 use tracker::feed::after_answer;
@@ -17,7 +17,7 @@ use tracker::tracker::Tracker;
 use tracker::tracker::new_tracker;
 ghost use mathlib.Core.Path.{_≡_};
 ghost use Rattle.sheet.specs.Sheet.{linesOf};
-ghost use Rattle.tracker.specs.Feed.{fedAll};
+ghost use Rattle.tracker.specs.Feed.{answersFed};
 ghost use Rattle.signing.specs.Capture.{broughtIn, broughtAt, broughtBy, captureFed, captureSigned};
 
 // Whether a capture was fed, or the number of its refusal.
@@ -66,7 +66,7 @@ pub fn capture_signs(profile: Profile, sheet: Sheet, capture: &[u8]) -> Signed
 
 // The events of a capture, one after another.
 fn feed_events(tracker: Tracker, capture: &[u8]) -> Tracker
-    ensures { λ r. ⌜ r ≡ fedAll tracker (broughtBy (now (capture .entry))) ⌝ }
+    ensures { λ r. ⌜ r ≡ answersFed tracker (broughtBy (now (capture .entry))) ⌝ }
 {
     let mut next = tracker;
     let mut at = 0;
@@ -82,7 +82,7 @@ fn feed_events(tracker: Tracker, capture: &[u8]) -> Tracker
 
 // One event: a frame is fed; any other is nothing.
 fn feed_event(tracker: Tracker, capture: &[u8], event: Event) -> Tracker
-    ensures { λ r. ⌜ r ≡ fedAll tracker (broughtAt (now (capture .entry)) event) ⌝ }
+    ensures { λ r. ⌜ r ≡ answersFed tracker (broughtAt (now (capture .entry)) event) ⌝ }
 {
     let kind = event.kind;
     match kind {
@@ -95,7 +95,7 @@ fn feed_event(tracker: Tracker, capture: &[u8], event: Event) -> Tracker
 
 // What the bytes of a frame bring.
 fn feed_frame(tracker: Tracker, bytes: &[u8]) -> Tracker
-    ensures { λ r. ⌜ r ≡ fedAll tracker (broughtIn (now (bytes .entry))) ⌝ }
+    ensures { λ r. ⌜ r ≡ answersFed tracker (broughtIn (now (bytes .entry))) ⌝ }
 {
     let brought = frame_fields(Direction::Answer, bytes);
     let Brought::Frame(fields) = brought else {

@@ -45,8 +45,8 @@ fn main() {
     }
     sign(
         letter,
-        fields::fields::bytes_at(&file, 0, length),
-        fields::fields::bytes_at(&capture, 0, count),
+        lent::part::bytes_at(&file, 0, length),
+        lent::part::bytes_at(&capture, 0, count),
     );
 }
 
@@ -225,7 +225,7 @@ fn first(word: &[u8]) -> u8 {
 // is room for; BAD, and says so, where it can't be read.
 fn read_argument(place: usize, word: &mut [u8], file: &mut [u8]) -> usize {
     let count = os::arg(place, word);
-    let path = fields::fields::bytes_at(word, 0, count);
+    let path = lent::part::bytes_at(word, 0, count);
     let fd = os::open_read(path);
     if fd < 0 {
         complain(b"can't open ", path);

@@ -7,7 +7,7 @@ use native.Mathlib.Omega.{arith}
 use borrow.Author.Tests.{eqb-false, ltb-true, ltb-false}
 use lib.Dec.{eqb, ltb}
 use lib.ListN.{length, getD}
-use Rattle.frame.proofs.Ruled.{pass-first}
+use Rattle.refusals.proofs.Ruled.{pass-first}
 use Rattle.row.specs.Profile.{letterOf, zonesOf}
 use Rattle.row.specs.Table.{table, rowOf, placeOf}
 use Rattle.row.specs.declared.profile.Profile.{Profile}
@@ -16,7 +16,7 @@ use Rattle.row.specs.declared.table.Row.{Row}
 use Rattle.row.specs.declared.table.Found.{Found}
 use Rattle.row.specs.declared.table.Found.the-variants as found
 use Rattle.row.proofs.Rows.{Each, each-found, none-at, code-at}
-use Rattle.judging.specs.Judge.{isSetting, blank, profileZone, noRow, rowZone, isMissing, rowIn, rowLines, rowJudged}
+use Rattle.judging.specs.Judge.{isSetting, blank, profileZone, noRow, rowZone, isMissing, rowIn, rowRules, rowJudged}
 use Rattle.judging.specs.declared.judge.Judged.{Judged}
 use Rattle.judging.specs.declared.judge.Judged.the-variants as judged
 use Rattle.judging.proofs.Judges.{judged-legal}
@@ -58,7 +58,7 @@ pub lies : (profile : Profile) (zone command : ℕ) (row : Row) → rowJudged pr
 unfolding rowJudged
 lies profile zone command row e =
     let there = rowIn (rowOf profile command) in
-    let passes = judged-legal (rowLines profile zone command) there row e .0 in
+    let passes = judged-legal (rowRules profile zone command) there row e .0 in
     let one = pass-first (profileZone profile zone) (noRow profile command ∷ rowZone there zone ∷ []) passes in
     let two = pass-first (noRow profile command) (rowZone there zone ∷ []) (one .1) in
     let zones = neither (eqb zone 0) (ltb (zonesOf profile) zone) (one .0) in
@@ -73,7 +73,7 @@ lies profile zone command row e =
 
 pub the-row : (profile : Profile) (zone command : ℕ) (row : Row) → rowJudged profile zone command ≡ judged.Legal row → row ≡ rowIn (rowOf profile command)
 unfolding rowJudged
-the-row profile zone command row e = judged-legal (rowLines profile zone command) (rowIn (rowOf profile command)) row e .1
+the-row profile zone command row e = judged-legal (rowRules profile zone command) (rowIn (rowOf profile command)) row e .1
 
 pub the-found : (f : Found) → isMissing f ≡ false → f ≡ found.Row (rowIn f)
 the-found (found.Row row) e = refl

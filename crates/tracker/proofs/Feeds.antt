@@ -10,15 +10,15 @@ use lib.ListN.{length, getD}
 use lib.Seq.{getD-set-same, getD-set-other}
 use Rattle.fields.specs.Raw.{tooLong}
 use Rattle.frame.specs.declared.direction.Direction.the-variants.{Answer}
-use Rattle.frame.proofs.Ruled.{refuses, was-accepted, pass-first}
+use Rattle.refusals.proofs.Ruled.{refuses, was-accepted, pass-first}
 use Rattle.row.specs.Profile.{letterOf}
 use Rattle.row.specs.Table.{table, rowOf}
 use Rattle.row.specs.declared.profile.Profile.{Profile}
 use Rattle.row.specs.declared.table.Row.{Row}
 use Rattle.row.specs.declared.table.Found.{Found}
 use Rattle.row.proofs.Rows.{Each, each-found}
-use Rattle.judging.specs.Judge.{isAnswer, lengthOf, valueOf, isMissing, rowIn, judgeLines}
-use Rattle.message.specs.Message.{isDenial, wrongCode, said, denial, messageOf, readLines, readOf}
+use Rattle.judging.specs.Judge.{isAnswer, hasLength, hasValue, isMissing, rowIn, judgeRules}
+use Rattle.message.specs.Message.{isDenial, wrongCode, said, denial, messageOf, readRules, readOf}
 use Rattle.message.specs.declared.read.Said.{Said}
 use Rattle.message.specs.declared.read.Message.{Message}
 use Rattle.message.specs.declared.read.Message.the-variants as message
@@ -27,8 +27,8 @@ use Rattle.message.specs.declared.read.Reading.the-variants as reading
 use Rattle.judging.proofs.Judges.{Passes, judge-passes}
 use Rattle.tracker.specs.Cell.{cellOf}
 use Rattle.tracker.specs.Tracker.{knownState, isSpoilt, spoiltAt, spoiltIn, keptAt, keptIn}
-use Rattle.tracker.specs.Feed.{put, heard, after}
-use Rattle.tracker.specs.FeedPromise.{Whole, answered, FeedPromise}
+use Rattle.tracker.specs.Feed.{madeKnown, toldBy, afterAnswer}
+use Rattle.tracker.specs.FeedPromise.{Whole, answerRead, FeedPromise}
 use Rattle.tracker.specs.declared.cell.Cell.{Cell}
 use Rattle.tracker.specs.declared.cell.Cell.the-variants as cell
 use Rattle.tracker.specs.declared.tracker.Tracker.{Tracker}
@@ -45,13 +45,13 @@ brings : (profile : Profile) (zone command ac : ℕ) (body : List ℕ) (s : Said
     → Brings profile zone command body s
 unfolding readOf
 brings profile zone command ac body s e =
-    let w = was-accepted (readLines profile Answer zone command ac body) reading.Refused (reading.Message (messageOf profile Answer zone command ac body)) (reading.Message (message.Status s)) e differ in
+    let w = was-accepted (readRules profile Answer zone command ac body) reading.Refused (reading.Message (messageOf profile Answer zone command ac body)) (reading.Message (message.Status s)) e differ in
     go (isDenial ac) (w .0) (w .1)
   where
     differ : (n : ℕ) → reading.Refused n ≡ reading.Message (message.Status s) → ⊥
     differ n f = let z : _≡_ {A = ℕ} 0 1 = cc in omega arith
 
-    go : (t : Bool) → refuses (wrongCode ac ∷ cond t (tooLong body ∷ []) (judgeLines profile Answer zone command body)) ≡ false
+    go : (t : Bool) → refuses (wrongCode ac ∷ cond t (tooLong body ∷ []) (judgeRules profile Answer zone command body)) ≡ false
         → reading.Message (cond t (message.Denied (denial zone command ac)) (message.Status (said profile Answer zone command body))) ≡ reading.Message (message.Status s)
         → Brings profile zone command body s
     go true r f = let z : _≡_ {A = ℕ} 0 1 = cc in absurd (omega arith)
@@ -60,11 +60,11 @@ brings profile zone command ac body s e =
         record {
           its-zone = ap (λ (x : Said). x .zone) (sym same);
           its-command = ap (λ (x : Said). x .command) (sym same);
-          passes = judge-passes profile Answer zone command body (pass-first (wrongCode ac) (judgeLines profile Answer zone command body) r .1);
+          passes = judge-passes profile Answer zone command body (pass-first (wrongCode ac) (judgeRules profile Answer zone command body) r .1);
         }
 
 -- the data of an answer in a row that is none of pairs are one byte, which the row has as an answer
-one-long : (row : Row) (n : ℕ) → row .pair ≡ false → lengthOf Answer row n ≡ true → n ≡ 1
+one-long : (row : Row) (n : ℕ) → row .pair ≡ false → hasLength Answer row n ≡ true → n ≡ 1
 one-long row n p l = go (eqb n 2) (eqb n 1) refl l
   where
     go : (two one : Bool) → eqb n 1 ≡ one → cond two (row .pair) (one && not (row .pair)) ≡ true → n ≡ 1
@@ -72,7 +72,7 @@ one-long row n p l = go (eqb n 2) (eqb n 1) refl l
     go false true e f = eqb-true n 1 e
     go false false e f = let w : _≡_ {A = ℕ} 0 1 = cc in absurd (omega arith)
 
-one-byte : (row : Row) (body : List ℕ) → length body ≡ 1 → valueOf Answer row body ≡ true → (b : ℕ) × (body ≡ b ∷ []) × (isAnswer row b ≡ true)
+one-byte : (row : Row) (body : List ℕ) → length body ≡ 1 → hasValue Answer row body ≡ true → (b : ℕ) × (body ≡ b ∷ []) × (isAnswer row b ≡ true)
 one-byte row [] l v = absurd (omega (arith, l))
 one-byte row (b ∷ []) l v = (b, refl, v)
 one-byte row (a ∷ b ∷ rest) l v = absurd (omega (arith, l))
@@ -92,19 +92,19 @@ unspoilt profile command b m a =
 
 -- a cell that is made known
 module _ (t : Tracker) (zone command i b : ℕ) (e : cellOf (t .profile) zone command ≡ cell.At i) where
-  put-known : Whole t → spoiltIn (t .profile) command b ≡ false → keptIn (put t (cell.At i) b) zone command ≡ Value b
+  put-known : Whole t → spoiltIn (t .profile) command b ≡ false → keptIn (madeKnown t (cell.At i) b) zone command ≡ Value b
   unfolding keptIn
   put-known w s =
       let h = within (t .profile) zone command i e in
-      let state : getD (put t (cell.At i) b .states) i 0 ≡ knownState = getD-set-same (t .states) i knownState 0 (omega (arith, h, w .0)) in
-      let value : getD (put t (cell.At i) b .values) i 0 ≡ b = getD-set-same (t .values) i b 0 (omega (arith, h, w .1)) in
+      let state : getD (madeKnown t (cell.At i) b .states) i 0 ≡ knownState = getD-set-same (t .states) i knownState 0 (omega (arith, h, w .0)) in
+      let value : getD (madeKnown t (cell.At i) b .values) i 0 ≡ b = getD-set-same (t .values) i b 0 (omega (arith, h, w .1)) in
       rw (e, state, value, s)
 
-  put-others : (z c : ℕ) → ((z ≡ zone) × (c ≡ command) → ⊥) → keptIn (put t (cell.At i) b) z c ≡ keptIn t z c
+  put-others : (z c : ℕ) → ((z ≡ zone) × (c ≡ command) → ⊥) → keptIn (madeKnown t (cell.At i) b) z c ≡ keptIn t z c
   unfolding keptIn
   put-others z c other = go (cellOf (t .profile) z c) refl
     where
-      go : (k : Cell) → cellOf (t .profile) z c ≡ k → keptAt (put t (cell.At i) b) k c ≡ keptAt t k c
+      go : (k : Cell) → cellOf (t .profile) z c ≡ k → keptAt (madeKnown t (cell.At i) b) k c ≡ keptAt t k c
       go cell.NoCell f = refl
       go (cell.At j) f =
           let apart : j ≡ i → ⊥ = λ g. other (same-cell (t .profile) zone command z c i e (f ∙ ap cell.At g)) in
@@ -115,39 +115,39 @@ module _ (t : Tracker) (zone command ac : ℕ) (body : List ℕ) where
   first = getD body 0 0
 
   -- after a status the tracker has its cell put
-  pub after-status : (s : Said) → answered t zone command ac body ≡ reading.Message (message.Status s)
-      → after t zone command ac body ≡ put t (cellOf (t .profile) zone command) first
+  pub after-status : (s : Said) → answerRead t zone command ac body ≡ reading.Message (message.Status s)
+      → afterAnswer t zone command ac body ≡ madeKnown t (cellOf (t .profile) zone command) first
   after-status s e =
       let br = brings (t .profile) zone command ac body s e in
-      ap (λ (r : Reading). heard t r first) e ∙ rw (br .its-zone, br .its-command)
+      ap (λ (r : Reading). toldBy t r first) e ∙ rw (br .its-zone, br .its-command)
 
-  pub settle : (P : Tracker → Type 0) → P t → ((s : Said) → answered t zone command ac body ≡ reading.Message (message.Status s) → P (after t zone command ac body)) → P (after t zone command ac body)
-  settle P same status = go (answered t zone command ac body) refl status
+  pub settle : (P : Tracker → Type 0) → P t → ((s : Said) → answerRead t zone command ac body ≡ reading.Message (message.Status s) → P (afterAnswer t zone command ac body)) → P (afterAnswer t zone command ac body)
+  settle P same status = go (answerRead t zone command ac body) refl status
     where
-      go : (r : Reading) → answered t zone command ac body ≡ r
-          → ((s : Said) → r ≡ reading.Message (message.Status s) → P (heard t r first)) → P (heard t r first)
+      go : (r : Reading) → answerRead t zone command ac body ≡ r
+          → ((s : Said) → r ≡ reading.Message (message.Status s) → P (toldBy t r first)) → P (toldBy t r first)
       go (reading.Message (message.Command s)) e f = same
       go (reading.Message (message.Status s)) e f = f s refl
       go (reading.Message (message.Denied d)) e f = same
       go (reading.Refused n) e f = same
 
   -- wherever the cell is, or is not, the others stay
-  put-cell : (k : Cell) → cellOf (t .profile) zone command ≡ k → (z c : ℕ) → ((z ≡ zone) × (c ≡ command) → ⊥) → keptIn (put t k first) z c ≡ keptIn t z c
+  put-cell : (k : Cell) → cellOf (t .profile) zone command ≡ k → (z c : ℕ) → ((z ≡ zone) × (c ≡ command) → ⊥) → keptIn (madeKnown t k first) z c ≡ keptIn t z c
   put-cell cell.NoCell e z c other = refl
   put-cell (cell.At i) e z c other = put-others t zone command i first e z c other
 
 pub feed-promise : (t : Tracker) (zone command ac : ℕ) (body : List ℕ) → FeedPromise t zone command ac body
 feed-promise t zone command ac body = record {
-  refused = λ n e. ap (λ (r : Reading). heard t r (getD body 0 0)) e;
-  denied = λ d e. ap (λ (r : Reading). heard t r (getD body 0 0)) e;
-  left-out = λ e. settle t zone command ac body (λ x. x ≡ t) refl (λ s f. after-status t zone command ac body s f ∙ ap (λ (k : Cell). put t k (getD body 0 0)) e);
+  refused = λ n e. ap (λ (r : Reading). toldBy t r (getD body 0 0)) e;
+  denied = λ d e. ap (λ (r : Reading). toldBy t r (getD body 0 0)) e;
+  left-out = λ e. settle t zone command ac body (λ x. x ≡ t) refl (λ s f. after-status t zone command ac body s f ∙ ap (λ (k : Cell). madeKnown t k (getD body 0 0)) e);
   known = λ w s f i e.
       let br = brings (t .profile) zone command ac body s f in
       let p = placed (t .profile) zone command i e in
       let passes = br .passes in
       let one = one-byte (rowIn (rowOf (t .profile) command)) body (one-long (rowIn (rowOf (t .profile) command)) (length body) (p .single) (passes .long)) (passes .value) in
-      let at : after t zone command ac body ≡ put t (cell.At i) (one .0) =
-      after-status t zone command ac body s f ∙ ap (λ (k : Cell). put t k (getD body 0 0)) e ∙ ap (λ (xs : List ℕ). put t (cell.At i) (getD xs 0 0)) (one .1) in
+      let at : afterAnswer t zone command ac body ≡ madeKnown t (cell.At i) (one .0) =
+      after-status t zone command ac body s f ∙ ap (λ (k : Cell). madeKnown t k (getD body 0 0)) e ∙ ap (λ (xs : List ℕ). madeKnown t (cell.At i) (getD xs 0 0)) (one .1) in
       (one .0, one .1, ap (λ (x : Tracker). keptIn x zone command) at ∙ put-known t zone command i (one .0) e w (unspoilt (t .profile) command (one .0) (passes .found) (one .2)));
   others = λ z c other. settle t zone command ac body (λ x. keptIn x z c ≡ keptIn t z c) refl (λ s f. ap (λ (x : Tracker). keptIn x z c) (after-status t zone command ac body s f) ∙ put-cell t zone command ac body (cellOf (t .profile) zone command) refl z c other);
 }

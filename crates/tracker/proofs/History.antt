@@ -17,8 +17,8 @@ use Rattle.message.specs.declared.read.Message.the-variants as message
 use Rattle.message.specs.declared.read.Reading.{Reading}
 use Rattle.message.specs.declared.read.Reading.the-variants as reading
 use Rattle.tracker.specs.Cell.{cellCount, cellOf}
-use Rattle.tracker.specs.Tracker.{knownState, fresh, keptIn}
-use Rattle.tracker.specs.Feed.{put, after, Brought, fedAll}
+use Rattle.tracker.specs.Tracker.{knownState, freshTracker, keptIn}
+use Rattle.tracker.specs.Feed.{madeKnown, afterAnswer, BroughtAnswer, answersFed}
 use Rattle.tracker.specs.FeedPromise.{Whole}
 use Rattle.tracker.specs.HistoryPromise.{IsStatus, NoneOf, Last, HistoryPromise}
 use Rattle.tracker.specs.declared.cell.Cell.{Cell}
@@ -31,28 +31,28 @@ use Rattle.tracker.proofs.Feeds.{settle, after-status, feed-promise}
 abbrev pub Fit : Profile → Tracker → Type 0
 Fit profile t = (t .profile ≡ profile) × Whole t
 
-fit-put : (profile : Profile) (t : Tracker) (k : Cell) (b : ℕ) → Fit profile t → Fit profile (put t k b)
+fit-put : (profile : Profile) (t : Tracker) (k : Cell) (b : ℕ) → Fit profile t → Fit profile (madeKnown t k b)
 fit-put profile t cell.NoCell b f = f
 fit-put profile t (cell.At i) b f = (f .0, (length-set (t .states) i knownState ∙ f .1 .0, length-set (t .values) i b ∙ f .1 .1))
 
-abbrev next : Tracker → Brought → Tracker
-next t a = after t (a .zone) (a .command) (a .answer) (a .body)
+abbrev next : Tracker → BroughtAnswer → Tracker
+next t a = afterAnswer t (a .zone) (a .command) (a .answer) (a .body)
 
-pub fit-next : (profile : Profile) (t : Tracker) (a : Brought) → Fit profile t → Fit profile (next t a)
+pub fit-next : (profile : Profile) (t : Tracker) (a : BroughtAnswer) → Fit profile t → Fit profile (next t a)
 fit-next profile t a f =
     settle t (a .zone) (a .command) (a .answer) (a .body) (Fit profile) f
     (λ s e. subst (Fit profile) (sym (after-status t (a .zone) (a .command) (a .answer) (a .body) s e)) (fit-put profile t (cellOf (t .profile) (a .zone) (a .command)) (getD (a .body) 0 0) f))
 
-pub fit-all : (profile : Profile) (t : Tracker) (fs : List Brought) → Fit profile t → Fit profile (fedAll t fs)
-unfolding fedAll
+pub fit-all : (profile : Profile) (t : Tracker) (fs : List BroughtAnswer) → Fit profile t → Fit profile (answersFed t fs)
+unfolding answersFed
 fit-all profile t [] f = f
 fit-all profile t (a ∷ fs) f = fit-all profile (next t a) fs (fit-next profile t a f)
 
-pub all-profile : (profile : Profile) (fs : List Brought) → fedAll (fresh profile) fs .profile ≡ profile
-all-profile profile fs = fit-all profile (fresh profile) fs (refl, (refl, refl)) .0
+pub all-profile : (profile : Profile) (fs : List BroughtAnswer) → answersFed (freshTracker profile) fs .profile ≡ profile
+all-profile profile fs = fit-all profile (freshTracker profile) fs (refl, (refl, refl)) .0
 
-pub fed-append : (t : Tracker) (fs bs : List Brought) → fedAll t (fs ++ bs) ≡ fedAll (fedAll t fs) bs
-unfolding fedAll
+pub fed-append : (t : Tracker) (fs bs : List BroughtAnswer) → answersFed t (fs ++ bs) ≡ answersFed (answersFed t fs) bs
+unfolding answersFed
 fed-append t [] bs = refl
 fed-append t (a ∷ fs) bs = fed-append (next t a) fs bs
 
@@ -74,54 +74,54 @@ refusal-differs : (n : ℕ) (s : Said) → reading.Refused n ≡ reading.Message
 refusal-differs n s e = let z : _≡_ {A = ℕ} 0 1 = cc in omega arith
 
 module _ (profile : Profile) (zone command : ℕ) where
-  abbrev reads : Profile → Brought → Reading
+  abbrev reads : Profile → BroughtAnswer → Reading
   reads p a = readOf p Answer (a .zone) (a .command) (a .answer) (a .body)
 
   -- an answer that is no status of the zone and command leaves what is known of them
-  step-stays : (t : Tracker) (a : Brought) → t .profile ≡ profile → (IsStatus profile zone command a → ⊥) → keptIn (next t a) zone command ≡ keptIn t zone command
+  step-stays : (t : Tracker) (a : BroughtAnswer) → t .profile ≡ profile → (IsStatus profile zone command a → ⊥) → keptIn (next t a) zone command ≡ keptIn t zone command
   step-stays t a p none =
       settle t (a .zone) (a .command) (a .answer) (a .body) (λ x. keptIn x zone command ≡ keptIn t zone command) refl
       (λ s e. feed-promise t (a .zone) (a .command) (a .answer) (a .body) .others zone command (λ w. none (sym (w .0), sym (w .1), (s, ap (λ (q : Profile). reads q a) (sym p) ∙ e))))
 
-  stays : (t : Tracker) (fs : List Brought) → Fit profile t → NoneOf profile zone command fs → keptIn (fedAll t fs) zone command ≡ keptIn t zone command
-  unfolding fedAll
+  stays : (t : Tracker) (fs : List BroughtAnswer) → Fit profile t → NoneOf profile zone command fs → keptIn (answersFed t fs) zone command ≡ keptIn t zone command
+  unfolding answersFed
   stays t [] f none = refl
   stays t (a ∷ fs) f none = stays (next t a) fs (fit-next profile t a f) (none .1) ∙ step-stays t a (f .0) (none .0)
 
   -- in a row and zone that have a cell
   module _ (i : ℕ) (kept : cellOf profile zone command ≡ cell.At i) where
-    abbrev Knows : Tracker → Brought → Type 0
+    abbrev Knows : Tracker → BroughtAnswer → Type 0
     Knows t a = (b : ℕ) × (a .body ≡ b ∷ []) × (keptIn (next t a) zone command ≡ Value b)
 
     -- a status makes its byte known
-    step-known : (t : Tracker) (a : Brought) → Fit profile t → IsStatus profile zone command a → Knows t a
+    step-known : (t : Tracker) (a : BroughtAnswer) → Fit profile t → IsStatus profile zone command a → Knows t a
     step-known t a f w =
         let here : cellOf (t .profile) (a .zone) (a .command) ≡ cell.At i = rw (f .0, w .0, w .1) kept in
         let read : reads (t .profile) a ≡ reading.Message (message.Status (w .2 .0)) = ap (λ (q : Profile). reads q a) (f .0) ∙ w .2 .1 in
         let k = feed-promise t (a .zone) (a .command) (a .answer) (a .body) .known (f .1) (w .2 .0) read i here in
         (k .0, k .1, ap (λ (z : ℕ). keptIn (next t a) z command) (sym (w .0)) ∙ ap (λ (c : ℕ). keptIn (next t a) (a .zone) c) (sym (w .1)) ∙ k .2)
 
-    fit-fresh : Fit profile (fresh profile)
+    fit-fresh : Fit profile (freshTracker profile)
     fit-fresh = (refl, (refl, refl))
 
-    fresh-unknown : keptIn (fresh profile) zone command ≡ Unknown
+    fresh-unknown : keptIn (freshTracker profile) zone command ≡ Unknown
     unfolding keptIn
     fresh-unknown = rw (kept, getD-replicate cellCount i)
 
-    last-known : (fs : List Brought) (b : ℕ) → Last profile zone command fs b → keptIn (fedAll (fresh profile) fs) zone command ≡ Value b
-    unfolding fedAll
+    last-known : (fs : List BroughtAnswer) (b : ℕ) → Last profile zone command fs b → keptIn (answersFed (freshTracker profile) fs) zone command ≡ Value b
+    unfolding answersFed
     last-known fs b l =
-        let t = fedAll (fresh profile) (l .before) in
-        let f = fit-all profile (fresh profile) (l .before) fit-fresh in
+        let t = answersFed (freshTracker profile) (l .before) in
+        let f = fit-all profile (freshTracker profile) (l .before) fit-fresh in
         let k = step-known t (l .answer) f (l .status) in
         let same : k .0 ≡ b = one-byte-same (k .0) b (sym (k .1) ∙ l .byte) in
-        ap (λ (gs : List Brought). keptIn (fedAll (fresh profile) gs) zone command) (l .whole)
-        ∙ ap (λ (x : Tracker). keptIn x zone command) (fed-append (fresh profile) (l .before) (l .answer ∷ l .later))
+        ap (λ (gs : List BroughtAnswer). keptIn (answersFed (freshTracker profile) gs) zone command) (l .whole)
+        ∙ ap (λ (x : Tracker). keptIn x zone command) (fed-append (freshTracker profile) (l .before) (l .answer ∷ l .later))
         ∙ stays (next t (l .answer)) (l .later) (fit-next profile t (l .answer) f) (l .none)
         ∙ k .2
         ∙ ap Value same
 
-    decided : (a : Brought) → IsStatus profile zone command a ⊎ (IsStatus profile zone command a → ⊥)
+    decided : (a : BroughtAnswer) → IsStatus profile zone command a ⊎ (IsStatus profile zone command a → ⊥)
     decided a = go (eqb (a .zone) zone) (eqb (a .command) command) (reads profile a) refl refl refl
       where
         go : (s t : Bool) (r : Reading) → eqb (a .zone) zone ≡ s → eqb (a .command) command ≡ t → reads profile a ≡ r
@@ -133,7 +133,7 @@ module _ (profile : Profile) (zone command : ℕ) where
         go true true (reading.Message (message.Denied d)) e f g = inr (λ w. denial-differs d (w .2 .0) (sym g ∙ w .2 .1))
         go true true (reading.Refused n) e f g = inr (λ w. refusal-differs n (w .2 .0) (sym g ∙ w .2 .1))
 
-    either : (fs : List Brought) → NoneOf profile zone command fs ⊎ ((b : ℕ) × Last profile zone command fs b)
+    either : (fs : List BroughtAnswer) → NoneOf profile zone command fs ⊎ ((b : ℕ) × Last profile zone command fs b)
     either [] = inl tt
     either (a ∷ fs) = go (either fs) (decided a)
       where
@@ -146,21 +146,21 @@ module _ (profile : Profile) (zone command : ℕ) where
                 before = a ∷ l .1 .before;
                 answer = l .1 .answer;
                 later = l .1 .later;
-                whole = ap (λ (gs : List Brought). a ∷ gs) (l .1 .whole);
+                whole = ap (λ (gs : List BroughtAnswer). a ∷ gs) (l .1 .whole);
                 status = l .1 .status;
                 none = l .1 .none;
                 byte = l .1 .byte;
               },
             )
         go (inl none) (inl w) =
-            let k = step-known (fresh profile) a fit-fresh w in
+            let k = step-known (freshTracker profile) a fit-fresh w in
             inr (k .0, record { before = []; answer = a; later = fs; whole = refl; status = w; none = none; byte = k .1 })
         go (inl none) (inr not) = inl (not, none)
 
-pub history-promise : (profile : Profile) (zone command i : ℕ) (kept : cellOf profile zone command ≡ cell.At i) (fs : List Brought)
+pub history-promise : (profile : Profile) (zone command i : ℕ) (kept : cellOf profile zone command ≡ cell.At i) (fs : List BroughtAnswer)
     → HistoryPromise profile zone command i kept fs
 history-promise profile zone command i kept fs = record {
-  unknown = λ none. stays profile zone command (fresh profile) fs (fit-fresh profile zone command i kept) none ∙ fresh-unknown profile zone command i kept;
+  unknown = λ none. stays profile zone command (freshTracker profile) fs (fit-fresh profile zone command i kept) none ∙ fresh-unknown profile zone command i kept;
   last = last-known profile zone command i kept fs;
   either = either profile zone command i kept fs;
 }

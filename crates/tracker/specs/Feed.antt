@@ -17,36 +17,36 @@ use Rattle.tracker.specs.declared.tracker.Tracker.{Tracker}
 use Rattle.tracker.specs.declared.feed.Fed.{Fed}
 
 -- one cell made known
-abbrev pub put : Tracker → Cell → ℕ → Tracker
-put t (cell.At i) b = record { profile = t .profile; states = set (t .states) i knownState; values = set (t .values) i b }
-put t cell.NoCell b = t
+abbrev pub madeKnown : Tracker → Cell → ℕ → Tracker
+madeKnown t (cell.At i) b = record { profile = t .profile; states = set (t .states) i knownState; values = set (t .values) i b }
+madeKnown t cell.NoCell b = t
 
 -- what a message tells, with the first byte of its data
 abbrev pub told : Tracker → Message → ℕ → Tracker
 told t (message.Command s) b = t
-told t (message.Status s) b = put t (cellOf (t .profile) (s .zone) (s .command)) b
+told t (message.Status s) b = madeKnown t (cellOf (t .profile) (s .zone) (s .command)) b
 told t (message.Denied d) b = t
 
-abbrev pub heard : Tracker → Reading → ℕ → Tracker
-heard t (reading.Message m) b = told t m b
-heard t (reading.Refused n) b = t
+abbrev pub toldBy : Tracker → Reading → ℕ → Tracker
+toldBy t (reading.Message m) b = told t m b
+toldBy t (reading.Refused n) b = t
 
-abbrev pub fed : Tracker → ℕ → ℕ → ℕ → List ℕ → Fed
-fed t zone command ac body =
+abbrev pub answerFed : Tracker → ℕ → ℕ → ℕ → List ℕ → Fed
+answerFed t zone command ac body =
     let r = readOf (t .profile) direction.Answer zone command ac body in
-    record { tracker = heard t r (getD body 0 0); reading = r }
+    record { tracker = toldBy t r (getD body 0 0); reading = r }
 
-abbrev pub after : Tracker → ℕ → ℕ → ℕ → List ℕ → Tracker
-after t zone command ac body = fed t zone command ac body .tracker
+abbrev pub afterAnswer : Tracker → ℕ → ℕ → ℕ → List ℕ → Tracker
+afterAnswer t zone command ac body = answerFed t zone command ac body .tracker
 
 -- what the frame of an answer brings
-pub record Brought : Type 0 where
+pub record BroughtAnswer : Type 0 where
   pub zone : ℕ
   pub command : ℕ
   pub answer : ℕ
   pub body : List ℕ
 
 -- "one answer at a time": answers fed one after another
-unfoldable pub fedAll : Tracker → List Brought → Tracker
-fedAll t [] = t
-fedAll t (a ∷ fs) = fedAll (after t (a .zone) (a .command) (a .answer) (a .body)) fs
+unfoldable pub answersFed : Tracker → List BroughtAnswer → Tracker
+answersFed t [] = t
+answersFed t (a ∷ fs) = answersFed (afterAnswer t (a .zone) (a .command) (a .answer) (a .body)) fs

@@ -13,7 +13,7 @@ use Rattle.message.specs.declared.read.Reading.{Reading}
 use Rattle.message.specs.declared.read.Reading.the-variants as reading
 use Rattle.tracker.specs.Cell.{cellCount, cellOf}
 use Rattle.tracker.specs.Tracker.{keptIn}
-use Rattle.tracker.specs.Feed.{after}
+use Rattle.tracker.specs.Feed.{afterAnswer}
 use Rattle.tracker.specs.declared.cell.Cell.the-variants as cell
 use Rattle.tracker.specs.declared.tracker.Tracker.{Tracker}
 use Rattle.tracker.specs.declared.tracker.Kept.the-variants.{Value}
@@ -22,14 +22,14 @@ use Rattle.tracker.specs.declared.tracker.Kept.the-variants.{Value}
 abbrev pub Whole : Tracker → Type 0
 Whole t = (length (t .states) ≡ cellCount) × (length (t .values) ≡ cellCount)
 
-abbrev pub answered : Tracker → ℕ → ℕ → ℕ → List ℕ → Reading
-answered t zone command ac body = readOf (t .profile) direction.Answer zone command ac body
+abbrev pub answerRead : Tracker → ℕ → ℕ → ℕ → List ℕ → Reading
+answerRead t zone command ac body = readOf (t .profile) direction.Answer zone command ac body
 
 pub record FeedPromise (t : Tracker) (zone command ac : ℕ) (body : List ℕ) : Type 0 where
-  pub refused : (n : ℕ) → answered t zone command ac body ≡ reading.Refused n → after t zone command ac body ≡ t
-  pub denied : (d : Denial) → answered t zone command ac body ≡ reading.Message (message.Denied d) → after t zone command ac body ≡ t
-  pub left-out : cellOf (t .profile) zone command ≡ cell.NoCell → after t zone command ac body ≡ t
-  pub known : Whole t → (s : Said) → answered t zone command ac body ≡ reading.Message (message.Status s)
+  pub refused : (n : ℕ) → answerRead t zone command ac body ≡ reading.Refused n → afterAnswer t zone command ac body ≡ t
+  pub denied : (d : Denial) → answerRead t zone command ac body ≡ reading.Message (message.Denied d) → afterAnswer t zone command ac body ≡ t
+  pub left-out : cellOf (t .profile) zone command ≡ cell.NoCell → afterAnswer t zone command ac body ≡ t
+  pub known : Whole t → (s : Said) → answerRead t zone command ac body ≡ reading.Message (message.Status s)
       → (i : ℕ) → cellOf (t .profile) zone command ≡ cell.At i
-      → (b : ℕ) × (body ≡ b ∷ []) × (keptIn (after t zone command ac body) zone command ≡ Value b)
-  pub others : (z c : ℕ) → ((z ≡ zone) × (c ≡ command) → ⊥) → keptIn (after t zone command ac body) z c ≡ keptIn t z c
+      → (b : ℕ) × (body ≡ b ∷ []) × (keptIn (afterAnswer t zone command ac body) zone command ≡ Value b)
+  pub others : (z c : ℕ) → ((z ≡ zone) × (c ≡ command) → ⊥) → keptIn (afterAnswer t zone command ac body) z c ≡ keptIn t z c

@@ -21,8 +21,8 @@ abbrev pub knownState : ℕ
 knownState = 1
 
 -- "Made new for one profile, it knows nothing."
-abbrev pub fresh : Profile → Tracker
-fresh profile = record { profile = profile; states = replicate cellCount 0; values = replicate cellCount 0 }
+abbrev pub freshTracker : Profile → Tracker
+freshTracker profile = record { profile = profile; states = replicate cellCount 0; values = replicate cellCount 0 }
 
 -- "In a sheet row a kept byte that is no legal sheet value (the host may have spoilt it) counts as unknown."
 abbrev pub isSpoilt : Row → ℕ → Bool

@@ -9,7 +9,7 @@ use message::read::read_message;
 ghost use mathlib.Core.Path.{_≡_};
 ghost use lib.ListN.{getD};
 ghost use Rattle.tracker.specs.Cell.{cellOf};
-ghost use Rattle.tracker.specs.Feed.{put, told, fed};
+ghost use Rattle.tracker.specs.Feed.{madeKnown, told, answerFed};
 
 // A tracker once it was fed, and what was fed: the message, or the number of the refusal.
 pub struct Fed {
@@ -19,7 +19,7 @@ pub struct Fed {
 
 // Feeds what an answer's frame brings, read under the tracker's own profile.
 pub fn after_answer(tracker: Tracker, zone: u8, command: u8, answer: u8, body: &[u8]) -> Fed
-    ensures { λ r. ⌜ r ≡ fed tracker zone command answer (now (body .entry)) ⌝ }
+    ensures { λ r. ⌜ r ≡ answerFed tracker zone command answer (now (body .entry)) ⌝ }
 {
     let profile = tracker.profile;
     let reading = read_message(profile, Direction::Answer, zone, command, answer, body);
@@ -49,7 +49,7 @@ fn with_message(tracker: Tracker, message: Message, byte: u8) -> Tracker
 }
 
 fn with_status(tracker: Tracker, zone: u8, command: u8, byte: u8) -> Tracker
-    ensures { λ r. ⌜ r ≡ put tracker (cellOf (tracker .profile) zone command) byte ⌝ }
+    ensures { λ r. ⌜ r ≡ madeKnown tracker (cellOf (tracker .profile) zone command) byte ⌝ }
 {
     let profile = tracker.profile;
     let cell = cell_of(profile, zone, command);

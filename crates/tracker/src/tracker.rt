@@ -7,7 +7,7 @@ use row::table::Row;
 use row::table::find_row;
 use sheet::line::is_sheet_value;
 ghost use mathlib.Core.Path.{_≡_};
-ghost use Rattle.tracker.specs.Tracker.{fresh, keptIn, isSpoilt, spoiltIn};
+ghost use Rattle.tracker.specs.Tracker.{freshTracker, keptIn, isSpoilt, spoiltIn};
 
 // The state of a cell that is known; any other is unknown.
 pub const KNOWN: u8 = 1;
@@ -29,7 +29,7 @@ pub enum Kept {
 
 // A tracker that knows nothing.
 pub fn new_tracker(profile: Profile) -> Tracker
-    ensures { λ r. ⌜ r ≡ fresh profile ⌝ }
+    ensures { λ r. ⌜ r ≡ freshTracker profile ⌝ }
 {
     Tracker {
         profile: profile,

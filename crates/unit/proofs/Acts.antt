@@ -6,16 +6,16 @@ use Prim.Native.Nat.{ℕ}
 use borrow.Author.Tests.{eqb-true, not-true}
 use lib.Dec.{eqb, leb}
 use lib.ListN.{length}
-use Rattle.frame.specs.Refusal.{Line}
+use Rattle.refusals.specs.Rule.{Rule}
 use Rattle.fields.specs.Fields.{dataIn}
 use Rattle.frame.specs.declared.direction.Direction.the-variants.{Command}
 use Rattle.frame.proofs.Cases.{cases}
-use Rattle.frame.proofs.Ruled.{refuses, firstNumber, refused-with, accepted-by, pass-append}
+use Rattle.refusals.proofs.Ruled.{refuses, firstNumber, refused-with, accepted-by, pass-append}
 use Rattle.row.specs.Table.{table, rowOf}
 use Rattle.row.specs.declared.profile.Profile.{Profile}
 use Rattle.row.specs.declared.table.Row.{Row}
 use Rattle.row.specs.declared.table.Found.the-variants as found
-use Rattle.judging.specs.Judge.{isSetting, isAnswer, isPair, rowIn, rowLines, judgeLines, rowJudged, wrongLength, wrongValue}
+use Rattle.judging.specs.Judge.{isSetting, isAnswer, isPair, rowIn, rowRules, judgeRules, rowJudged, wrongLength, wrongValue}
 use Rattle.message.specs.Content.{isOff, contentOf, numberCode, codeFits, isForm}
 use Rattle.message.specs.Message.{said, readOf}
 use Rattle.judging.specs.declared.judge.Judged.the-variants as judged
@@ -29,7 +29,7 @@ use Rattle.message.proofs.Forms.{form-promise}
 use Rattle.message.proofs.Tests.{both, upto, upto-at}
 use Rattle.message.proofs.Tidy.{every, row-passes}
 use Rattle.unit.specs.House.{valueAfter}
-use Rattle.unit.specs.Unit.{Cell, value, input, current, Settings, isCell, put, about, Done, refused, acted, doneBy, zoneIn, commandIn, heard, frameDone}
+use Rattle.unit.specs.Unit.{Setting, value, input, current, Settings, sameSetting, put, about, Done, refused, acted, doneBy, zoneIn, commandIn, heard, frameDone}
 use Rattle.unit.specs.Legal.{Legal, RowIn}
 use Rattle.unit.proofs.Tests.{clash, none-of, implies, implied}
 use Rattle.unit.proofs.Houses.{well, house-promise}
@@ -41,17 +41,17 @@ rowFor profile command = rowIn (rowOf profile command)
 
 -- a command that none of the lines refuses: its row, and a form of that row
 pub record Accepted (profile : Profile) (zone command : ℕ) (body : List ℕ) : Type 0 where
-  pub zones : refuses (rowLines profile zone command) ≡ false
+  pub zones : refuses (rowRules profile zone command) ≡ false
   pub row-in : RowIn profile zone command (rowFor profile command)
   pub there : rowOf profile command ≡ found.Row (rowFor profile command)
   pub form : isForm Command (rowFor profile command) (contentOf Command (rowFor profile command) body) ≡ true
 
-pub accepted : (profile : Profile) (zone command : ℕ) (body : List ℕ) → refuses (judgeLines profile Command zone command body) ≡ false → Accepted profile zone command body
+pub accepted : (profile : Profile) (zone command : ℕ) (body : List ℕ) → refuses (judgeRules profile Command zone command body) ≡ false → Accepted profile zone command body
 unfolding rowJudged
 accepted profile zone command body e =
     let row = rowFor profile command in
-    let zones = pass-append (rowLines profile zone command) (wrongLength Command row (length body) ∷ wrongValue Command row body ∷ []) e .0 in
-    let row-in = accepted-by (rowLines profile zone command) judged.Refused (judged.Legal row) zones in
+    let zones = pass-append (rowRules profile zone command) (wrongLength Command row (length body) ∷ wrongValue Command row body ∷ []) e .0 in
+    let row-in = accepted-by (rowRules profile zone command) judged.Refused (judged.Legal row) zones in
     let there = row-there profile zone command row row-in .0 in
     let passes = judge-passes profile Command zone command body e in
     record {
@@ -62,8 +62,8 @@ accepted profile zone command body e =
     }
 
 module _ (profile : Profile) (s : Settings) (bytes : List ℕ) where
-  abbrev lines : List Line
-  lines = judgeLines profile Command (zoneIn bytes) (commandIn bytes) (dataIn Command bytes)
+  abbrev lines : List Rule
+  lines = judgeRules profile Command (zoneIn bytes) (commandIn bytes) (dataIn Command bytes)
 
   abbrev does : Done
   does = acted profile s (said profile Command (zoneIn bytes) (commandIn bytes) (dataIn Command bytes))
@@ -134,12 +134,12 @@ module _ (profile : Profile) (s : Settings) (l : Legal profile s) where
   -- a row's value in a zone, and an input's, put where they are legal
   put-value : (zone command v : ℕ) → ((row : Row) → RowIn profile zone command row → row .pair ≡ false → isAnswer row v ≡ true) → Legal profile (put s (value zone command) v)
   put-value zone command v fits = record {
-    rows = λ z c row there single. go z c row there single (isCell (value zone command) (value z c)) refl;
+    rows = λ z c row there single. go z c row there single (sameSetting (value zone command) (value z c)) refl;
     inputs = l .inputs;
     now = l .now;
   }
     where
-      go : (z c : ℕ) (row : Row) → RowIn profile z c row → row .pair ≡ false → (t : Bool) → isCell (value zone command) (value z c) ≡ t
+      go : (z c : ℕ) (row : Row) → RowIn profile z c row → row .pair ≡ false → (t : Bool) → sameSetting (value zone command) (value z c) ≡ t
           → isAnswer row (cond t v (s (value z c))) ≡ true
       go z c row there single true e =
           let (same-zone, same-command) = both (eqb zone z) (eqb command c) e in
@@ -149,11 +149,11 @@ module _ (profile : Profile) (s : Settings) (l : Legal profile s) where
   put-input : (i v : ℕ) → leb v 1 ≡ true → Legal profile (put s (input i) v)
   put-input i v small = record {
     rows = l .rows;
-    inputs = λ z c row there paired j known. go z c row there paired j known (isCell (input i) (input j)) refl;
+    inputs = λ z c row there paired j known. go z c row there paired j known (sameSetting (input i) (input j)) refl;
     now = l .now;
   }
     where
-      go : (z c : ℕ) (row : Row) → RowIn profile z c row → row .pair ≡ true → (j : ℕ) → isAnswer row j ≡ true → (t : Bool) → isCell (input i) (input j) ≡ t
+      go : (z c : ℕ) (row : Row) → RowIn profile z c row → row .pair ≡ true → (j : ℕ) → isAnswer row j ≡ true → (t : Bool) → sameSetting (input i) (input j) ≡ t
           → isPair row j (cond t v (s (input j))) ≡ true
       go z c row there paired j known true e = rw (paired, small, known)
       go z c row there paired j known false e = l .inputs z c row there paired j known
@@ -167,7 +167,7 @@ module _ (profile : Profile) (s : Settings) (l : Legal profile s) where
         let alone : rowFor profile command .pair ≡ false = rw (← same) single in
         rw same (house-promise profile command (rowFor profile command) (a .there) .legal alone (s (value zone command)) (l .rows zone command (rowFor profile command) (a .row-in) alone) c f)
 
-    abbrev made : Content → Cell → Settings
+    abbrev made : Content → Setting → Settings
     made c x = put s x (valueAfter (rowFor profile command) c (s x))
 
     said-legal : (c : Content) → isForm Command (rowFor profile command) c ≡ true → Legal profile (made c (about (rowFor profile command) s zone command c))
@@ -186,8 +186,8 @@ frame-legal profile s bytes l =
     (λ a. said-legal profile s l (zoneIn bytes) (commandIn bytes) (dataIn Command bytes) a _ (a .form))
 
 -- no command is about the current input
-not-current : (row : Row) (s : Settings) (zone command : ℕ) (c : Content) → isCell (about row s zone command c) current ≡ false
-not-current row s zone command c = cases (λ (x : Cell). isCell x current ≡ false) (row .pair) (λ e. refl) (λ e. refl)
+not-current : (row : Row) (s : Settings) (zone command : ℕ) (c : Content) → sameSetting (about row s zone command c) current ≡ false
+not-current row s zone command c = cases (λ (x : Setting). sameSetting x current ≡ false) (row .pair) (λ e. refl) (λ e. refl)
 
 pub frame-now : (profile : Profile) (s : Settings) (bytes : List ℕ) → frameDone profile s bytes .settings current ≡ s current
 frame-now profile s bytes =

@@ -8,19 +8,19 @@ use native.Mathlib.Omega.{arith}
 use borrow.Author.Tests.{leb-true}
 use lib.Dec.{eqb, leb}
 use lib.ListN.{length, getD}
-use Rattle.frame.specs.Refusal.{Line}
+use Rattle.refusals.specs.Rule.{Rule}
 use Rattle.frame.specs.Frame.{frameOf}
 use Rattle.fields.specs.Fields.{dataIn}
-use Rattle.frame.specs.RulePromise.{First}
+use Rattle.refusals.specs.RulePromise.{FirstApplies}
 use Rattle.frame.specs.declared.direction.Direction.the-variants.{Command, Answer}
 use Rattle.fields.proofs.Back.{frame-promise}
 use Rattle.frame.proofs.Cases.{cases}
-use Rattle.frame.proofs.Ruled.{was-accepted, accepted-by, append-pass, pass-both}
+use Rattle.refusals.proofs.Ruled.{was-accepted, accepted-by, append-pass, pass-both}
 use Rattle.row.specs.declared.profile.Profile.{Profile}
 use Rattle.row.specs.declared.table.Row.{Row}
-use Rattle.judging.specs.Judge.{isAnswer, isPair, rowLines, judgeLines, wrongLength, wrongValue}
+use Rattle.judging.specs.Judge.{isAnswer, isPair, rowRules, judgeRules, wrongLength, wrongValue}
 use Rattle.message.specs.Content.{contentOf, isForm}
-use Rattle.message.specs.Message.{said, readLines, readOf, fromReading, frameRead}
+use Rattle.message.specs.Message.{said, readRules, readOf, fromReading, frameRead}
 use Rattle.message.specs.declared.content.Content.{Content}
 use Rattle.message.specs.declared.read.Said.{Said}
 use Rattle.message.specs.declared.read.Message.the-variants as message
@@ -30,9 +30,10 @@ use Rattle.message.proofs.Readings.{frame-some}
 use Rattle.message.specs.FormPromise.{LegalData}
 use Rattle.message.proofs.Tests.{both}
 use Rattle.unit.specs.House.{valueAfter}
-use Rattle.unit.specs.Unit.{Cell, value, input, current, Settings, put, about, shown, Done, refusalCode, acted, zoneIn, commandIn, heard, frameDone}
+use Rattle.unit.specs.Unit.{Setting, value, input, current, Settings, put, about, shown, Done, refusalCode, acted, zoneIn, commandIn, heard, frameDone}
 use Rattle.unit.specs.Legal.{Legal}
-use Rattle.unit.specs.Sending.{Each, Bytes}
+use Rattle.lists.specs.Each.{Each}
+use Rattle.unit.specs.Sending.{Bytes}
 use Rattle.unit.specs.UnitPromise.{Told, Denied, DonePromise}
 use Rattle.unit.proofs.Cells.{cell-self}
 use Rattle.unit.proofs.Houses.{well}
@@ -57,7 +58,7 @@ denied-reads profile zone command n =
     Denies ac = readOf profile Answer zone command ac [] ≡ reading.Message (message.Denied (record { zone = zone; command = command; answer = ac }))
 
 -- a command is refused with one of the four numbers
-first-of : (P : ℕ → Type 0) (ls : List Line) → Each (λ (x : Line). P (x .number)) ls → (n : ℕ) → First ls n → P n
+first-of : (P : ℕ → Type 0) (ls : List Rule) → Each (λ (x : Rule). P (x .number)) ls → (n : ℕ) → FirstApplies ls n → P n
 first-of P [] e n w = absurd w
 first-of P (x ∷ ls) e n (inl w) = subst P (w .1) (e .0)
 first-of P (x ∷ ls) e n (inr w) = first-of P ls (e .1) n (w .1)
@@ -65,7 +66,7 @@ first-of P (x ∷ ls) e n (inr w) = first-of P ls (e .1) n (w .1)
 four : (profile : Profile) (zone command : ℕ) (body : List ℕ) (n : ℕ) → readOf profile Command zone command 0 body ≡ reading.Refused n
     → (n ≡ 1) ⊎ (n ≡ 2) ⊎ (n ≡ 3) ⊎ (n ≡ 4)
 four profile zone command body n e =
-    first-of (λ k. (k ≡ 1) ⊎ (k ≡ 2) ⊎ (k ≡ 3) ⊎ (k ≡ 4)) (judgeLines profile Command zone command body)
+    first-of (λ k. (k ≡ 1) ⊎ (k ≡ 2) ⊎ (k ≡ 3) ⊎ (k ≡ 4)) (judgeRules profile Command zone command body)
     (inl refl, (inr (inl refl), (inl refl, (inr (inr (inl refl)), (inr (inr (inr refl)), tt))))) n
     (order-promise profile Command zone command 0 body .applies n e)
 
@@ -74,11 +75,11 @@ module _ (profile : Profile) (s : Settings) (l : Legal profile s) (z k : ℕ) (d
   abbrev r : Row
   r = rowFor profile k
 
-  abbrev x : Content → Cell
+  abbrev x : Content → Setting
   x c = about r s z k c
 
   -- what a cell shows is legal in an answer of the row
-  Shows : Cell → ℕ → Type 0
+  Shows : Setting → ℕ → Type 0
   Shows y w = LegalData Answer r (shown y w) × ((y ≡ value z k) ⊎ ((i : ℕ) × (y ≡ input i)))
 
   shows-pair : (i w : ℕ) → r .pair ≡ true → isPair r i w ≡ true → Shows (input i) w
@@ -104,8 +105,8 @@ module _ (profile : Profile) (s : Settings) (l : Legal profile s) (z k : ℕ) (d
   unfolding readOf
   status-reads b h =
       let data-pass = pass-both (wrongLength Answer r (length b)) (wrongValue Answer r b ∷ []) (rw (h .long)) (pass-both (wrongValue Answer r b) [] (rw (h .value)) refl) in
-      let pass = append-pass (rowLines profile z k) (wrongLength Answer r (length b) ∷ wrongValue Answer r b ∷ []) (a .zones) data-pass in
-      accepted-by (readLines profile Answer z k 0 b) reading.Refused _ pass
+      let pass = append-pass (rowRules profile z k) (wrongLength Answer r (length b) ∷ wrongValue Answer r b ∷ []) (a .zones) data-pass in
+      accepted-by (readRules profile Answer z k 0 b) reading.Refused _ pass
 
   abbrev c : Content
   c = contentOf Command r d
@@ -137,7 +138,7 @@ module _ (profile : Profile) (s : Settings) (l : Legal profile s) (z k : ℕ) (d
   }
 
   -- and they are bytes
-  shown-bytes : (y : Cell) (w : ℕ) → LegalData Answer r (shown y w) → Bytes (shown y w)
+  shown-bytes : (y : Setting) (w : ℕ) → LegalData Answer r (shown y w) → Bytes (shown y w)
   shown-bytes (value zone command) w h = (well profile k r (a .there) .answer-byte w (h .value), tt)
   shown-bytes (input i) w h =
       let (paired, rest) = both (r .pair) (leb w 1 && isAnswer r i) (h .value) in
@@ -164,7 +165,7 @@ module _ (profile : Profile) (s : Settings) (bytes : List ℕ) where
       let z = zoneIn bytes in
       let k = commandIn bytes in
       let d = dataIn Command bytes in
-      let w = was-accepted (judgeLines profile Command z k d) reading.Refused (reading.Message (message.Command (said profile Command z k d))) (reading.Message (message.Command c)) e differ in
+      let w = was-accepted (judgeRules profile Command z k d) reading.Refused (reading.Message (message.Command (said profile Command z k d))) (reading.Message (message.Command c)) e differ in
       subst (λ (y : Said). Told profile y (frameDone profile s bytes)) (same (w .1))
       (subst (Told profile (said profile Command z k d)) (sym (done-acted profile s bytes (w .0))) (told-said profile s l z k d (accepted profile z k d (w .0))))
     where
@@ -201,7 +202,7 @@ code-small : (n : ℕ) → refusalCode n < 256
 code-small n =
     cases (λ (k : ℕ). k < 256) (eqb n 1) (λ e. omega arith) (λ e. cases (λ (k : ℕ). k < 256) (eqb n 2) (λ f. omega arith) (λ f. cases (λ (k : ℕ). k < 256) (eqb n 3) (λ g. omega arith) (λ g. omega arith)))
 
-shown-short : (y : Cell) (w : ℕ) → length (shown y w) < 256
+shown-short : (y : Setting) (w : ℕ) → length (shown y w) < 256
 shown-short (value zone command) w = omega arith
 shown-short (input i) w = omega arith
 shown-short current w = omega arith

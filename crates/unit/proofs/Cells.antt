@@ -5,11 +5,11 @@ use mathlib.Core.List.{List, [], _∷_}
 use borrow.Author.Tests.{eq-eqb, eqb-true}
 use lib.Dec.{eqb}
 use Rattle.message.proofs.Tests.{both}
-use Rattle.unit.specs.Unit.{Cell, value, input, current, Settings, isCell, put}
-use Rattle.unit.specs.Sending.{Each}
+use Rattle.unit.specs.Unit.{Setting, value, input, current, Settings, sameSetting, put}
+use Rattle.lists.specs.Each.{Each}
 use Rattle.unit.proofs.Tests.{clash}
 
-pub is-cell : (x y : Cell) → isCell x y ≡ true → x ≡ y
+pub is-cell : (x y : Setting) → sameSetting x y ≡ true → x ≡ y
 is-cell (value z c) (value z′ c′) e =
     let (zone, command) = both (eqb z z′) (eqb c c′) e in
     rw (eqb-true z z′ zone, eqb-true c c′ command)
@@ -22,16 +22,16 @@ is-cell current (value z c) e = clash e
 is-cell current (input j) e = clash e
 is-cell current current e = refl
 
-pub cell-self : (x : Cell) → isCell x x ≡ true
+pub cell-self : (x : Setting) → sameSetting x x ≡ true
 cell-self (value z c) = rw (eq-eqb z z refl, eq-eqb c c refl)
 cell-self (input i) = eq-eqb i i refl
 cell-self current = refl
 
 -- a cell with its own value again
-pub put-same : (s : Settings) (x : Cell) → put s x (s x) ≡ s
-put-same s x = fun-ext (λ y. go y (isCell x y) refl)
+pub put-same : (s : Settings) (x : Setting) → put s x (s x) ≡ s
+put-same s x = fun-ext (λ y. go y (sameSetting x y) refl)
   where
-    go : (y : Cell) (t : Bool) → isCell x y ≡ t → cond t (s x) (s y) ≡ s y
+    go : (y : Setting) (t : Bool) → sameSetting x y ≡ t → cond t (s x) (s y) ≡ s y
     go y true e = ap s (is-cell x y e)
     go y false e = refl
 

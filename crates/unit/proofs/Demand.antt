@@ -9,7 +9,8 @@ use Rattle.sheetfile.specs.Run.{flush, runOf}
 use Rattle.sheet.specs.SheetPromise.{AllSound}
 use Rattle.sheet.specs.declared.line.Line.{Line}
 use Rattle.sheet.proofs.Sheets.{sheet-promise}
-use Rattle.unit.specs.Sending.{Each, Apart}
+use Rattle.lists.specs.Each.{Each}
+use Rattle.unit.specs.Sending.{Apart}
 use Rattle.unit.specs.Demand3.{Demand3}
 use Rattle.unit.proofs.Cells.{each-map}
 use Rattle.unit.proofs.Sendings.{sending-promise}

@@ -15,14 +15,14 @@ use Rattle.message.specs.declared.read.Said.{Said}
 use Rattle.message.specs.declared.read.Message.the-variants as message
 use Rattle.message.specs.declared.read.Reading.the-variants as reading
 use Rattle.unit.specs.House.{valueAfter}
-use Rattle.unit.specs.Unit.{Cell, value, input, current, Settings, put, Unit, shown, about, Done, doneBy, byteDone, zoneIn, commandIn, heard, frameDone, replies}
+use Rattle.unit.specs.Unit.{Setting, value, input, current, Settings, put, Unit, shown, about, Done, doneBy, byteDone, zoneIn, commandIn, heard, frameDone, replies}
 use Rattle.unit.specs.UnitPromise.{ActPromise, BytePromise}
 use Rattle.unit.proofs.Cells.{cell-self, put-same}
 
 -- a command acts about one cell, over the row that was found
 module _ (profile : Profile) (s : Settings) (bytes : List ℕ) (c : Said) (h : heard profile bytes ≡ reading.Message (message.Command c)) (row : Row)
     (there : rowOf profile (c .command) ≡ found.Row row) where
-  abbrev does : Row → Cell → Done
+  abbrev does : Row → Setting → Done
   does r x =
       let later = put s x (valueAfter r (c .content) (s x)) in
       record { settings = later; answer = frameOf Answer (c .zone) (c .command) 0x00 (shown x (later x)) }
@@ -34,7 +34,7 @@ module _ (profile : Profile) (s : Settings) (bytes : List ℕ) (c : Said) (h : h
       ∙ ap (λ (f : Found). does (rowIn f) (about (rowIn f) s (c .zone) (c .command) (c .content))) there
 
   -- about this cell, with this value then
-  at-cell : (x : Cell) (v : ℕ) → about row s (c .zone) (c .command) (c .content) ≡ x → valueAfter row (c .content) (s x) ≡ v
+  at-cell : (x : Setting) (v : ℕ) → about row s (c .zone) (c .command) (c .content) ≡ x → valueAfter row (c .content) (s x) ≡ v
       → (frameDone profile s bytes .settings ≡ put s x v) × (frameDone profile s bytes .answer ≡ frameOf Answer (c .zone) (c .command) 0x00 (shown x v))
   at-cell x v e f =
       let whole = acts ∙ ap (does row) e in

@@ -10,12 +10,13 @@ use Rattle.frame.specs.Frame.{opens, ends, frameOf}
 use Rattle.frame.specs.Reader.{answerTo, takenAfter}
 use Rattle.frame.specs.declared.direction.Direction.the-variants.{Command}
 use Rattle.row.specs.declared.profile.Profile.{Profile}
-use Rattle.sheetfile.specs.Order.{inOrder}
+use Rattle.lists.specs.InOrder.{inOrder}
 use Rattle.sheet.specs.Line.{isLegal, sameCell}
 use Rattle.sheetfile.specs.Run.{lineFrame, framesOf}
 use Rattle.sheet.specs.declared.line.Line.{Line}
-use Rattle.unit.specs.Unit.{Cell, value, Settings, isCell, put, Unit, Done, takes, frameDone, after}
-use Rattle.unit.specs.Sending.{Each, Bytes, cellOf, NotOn, Apart, sending, sendings}
+use Rattle.unit.specs.Unit.{Setting, value, Settings, sameSetting, put, Unit, Done, takes, frameDone, after}
+use Rattle.lists.specs.Each.{Each}
+use Rattle.unit.specs.Sending.{Bytes, settingOf, NotOn, Apart, sending, sendings}
 use Rattle.unit.specs.Demand3.{stopped, Promised}
 use Rattle.unit.specs.SendingPromise.{SendingPromise}
 use Rattle.unit.proofs.Cells.{is-cell, cell-self, each-map, each-zip}
@@ -32,7 +33,7 @@ settings-quiet u b other = ap (λ (d : Done). d .settings) (quiet u b other)
 
 module _ (profile : Profile) (start want : Settings) where
   abbrev pub Between : Settings → Type 0
-  Between s = (x : Cell) → (s x ≡ start x) ⊎ (s x ≡ want x)
+  Between s = (x : Setting) → (s x ≡ start x) ⊎ (s x ≡ want x)
 
   -- a unit whose settings lie between the start and what is wanted
   pub record Good (u : Unit) : Type 0 where
@@ -63,20 +64,20 @@ module _ (profile : Profile) (start want : Settings) where
 
   -- a line that is legal, and wanted
   abbrev pub Wanted : Line → Type 0
-  Wanted l = (isLegal profile l ≡ true) × (want (cellOf l) ≡ l .value)
+  Wanted l = (isLegal profile l ≡ true) × (want (settingOf l) ≡ l .value)
 
-  put-between : (l : Line) (s : Settings) → want (cellOf l) ≡ l .value → Between s → Between (put s (cellOf l) (l .value))
-  put-between l s e b x = go (isCell (cellOf l) x) refl
+  put-between : (l : Line) (s : Settings) → want (settingOf l) ≡ l .value → Between s → Between (put s (settingOf l) (l .value))
+  put-between l s e b x = go (sameSetting (settingOf l) x) refl
     where
-      go : (t : Bool) → isCell (cellOf l) x ≡ t → (cond t (l .value) (s x) ≡ start x) ⊎ (cond t (l .value) (s x) ≡ want x)
-      go true f = inr (sym e ∙ ap want (is-cell (cellOf l) x f))
+      go : (t : Bool) → sameSetting (settingOf l) x ≡ t → (cond t (l .value) (s x) ≡ start x) ⊎ (cond t (l .value) (s x) ≡ want x)
+      go true f = inr (sym e ∙ ap want (is-cell (settingOf l) x f))
       go false f = b x
 
-  put-keeps : (l : Line) (s : Settings) → want (cellOf l) ≡ l .value → (x : Cell) → s x ≡ want x → put s (cellOf l) (l .value) x ≡ want x
-  put-keeps l s e x h = go (isCell (cellOf l) x) refl
+  put-keeps : (l : Line) (s : Settings) → want (settingOf l) ≡ l .value → (x : Setting) → s x ≡ want x → put s (settingOf l) (l .value) x ≡ want x
+  put-keeps l s e x h = go (sameSetting (settingOf l) x) refl
     where
-      go : (t : Bool) → isCell (cellOf l) x ≡ t → cond t (l .value) (s x) ≡ want x
-      go true f = sym e ∙ ap want (is-cell (cellOf l) x f)
+      go : (t : Bool) → sameSetting (settingOf l) x ≡ t → cond t (l .value) (s x) ≡ want x
+      go true f = sym e ∙ ap want (is-cell (settingOf l) x f)
       go false f = h
 
   -- one line's frame, from a reader that 21 opens
@@ -93,12 +94,12 @@ module _ (profile : Profile) (start want : Settings) where
     abbrev rest : List ℕ
     rest = l .zone ∷ l .command ∷ 1 ∷ l .value ∷ ends ∷ []
 
-    sets : frameDone (u .profile) (u .settings) (opens ∷ rest) .settings ≡ put (u .settings) (cellOf l) (l .value)
+    sets : frameDone (u .profile) (u .settings) (opens ∷ rest) .settings ≡ put (u .settings) (settingOf l) (l .value)
     unfolding frameOf
     sets = line-promise (u .profile) (u .settings) l .sets (rw (g .family) (w .0))
 
     abbrev framed-unit : Unit
-    framed-unit = record { profile = u .profile; taken = []; settings = put (u .settings) (cellOf l) (l .value) }
+    framed-unit = record { profile = u .profile; taken = []; settings = put (u .settings) (settingOf l) (l .value) }
 
     inside : (taken : List ℕ) → Within Command 256 taken → Good (opened-unit taken)
     inside taken h = record { family = g .family; near = h; between = g .between }
@@ -135,11 +136,11 @@ module _ (profile : Profile) (start want : Settings) where
 
   -- the frames of lines that are wanted: each setting that was as wanted stays so, and each line's becomes so
   abbrev Reached : Unit → Line → Type 0
-  Reached u l = u .settings (cellOf l) ≡ want (cellOf l)
+  Reached u l = u .settings (settingOf l) ≡ want (settingOf l)
 
   record Framed (u : Unit) (ls : List Line) : Type 0 where
     always : Always Good u (framesOf ls)
-    keeps : (x : Cell) → u .settings x ≡ want x → after u (framesOf ls) .settings x ≡ want x
+    keeps : (x : Setting) → u .settings x ≡ want x → after u (framesOf ls) .settings x ≡ want x
     all : Each (Reached (after u (framesOf ls))) ls
 
   framed : (ls : List Line) → Each Wanted ls → (u : Unit) → Good u → Within Command 1 (u .taken) → Framed u ls
@@ -150,14 +151,14 @@ module _ (profile : Profile) (start want : Settings) where
       let next : Unit = after u (lineFrame l) in
       let good : Good next = always-last Good u (lineFrame l) (frame-good l (w .0) u g near) in
       let outside : Within Command 1 (next .taken) = rw (ap (λ (x : Unit). x .taken) one) (λ some. absurd (omega arith)) in
-      let put-is : (x : Cell) → next .settings x ≡ put (u .settings) (cellOf l) (l .value) x = λ x. ap (λ (v : Unit). v .settings x) one in
-      let own : next .settings (cellOf l) ≡ want (cellOf l) = put-is (cellOf l) ∙ rw (cell-self (cellOf l)) (sym (w .0 .1)) in
+      let put-is : (x : Setting) → next .settings x ≡ put (u .settings) (settingOf l) (l .value) x = λ x. ap (λ (v : Unit). v .settings x) one in
+      let own : next .settings (settingOf l) ≡ want (settingOf l) = put-is (settingOf l) ∙ rw (cell-self (settingOf l)) (sym (w .0 .1)) in
       let more = framed ls (w .1) next good outside in
       let whole : after u (lineFrame l ++ framesOf ls) ≡ after next (framesOf ls) = after-append u (lineFrame l) (framesOf ls) in
       record {
         always = always-append Good u (lineFrame l) (framesOf ls) (frame-good l (w .0) u g near) (more .always);
         keeps = λ x e. rw whole (more .keeps x (put-is x ∙ put-keeps l (u .settings) (w .0 .1) x e));
-        all = rw whole (more .keeps (cellOf l) own, more .all);
+        all = rw whole (more .keeps (settingOf l) own, more .all);
       }
 
   -- one sending, of at least 255 zeros and the frames
@@ -193,20 +194,20 @@ module _ (profile : Profile) (start want : Settings) where
 -- what lines make of settings
 abbrev pub wanted : List Line → Settings → Settings
 wanted [] s = s
-wanted (l ∷ ls) s = put (wanted ls s) (cellOf l) (l .value)
+wanted (l ∷ ls) s = put (wanted ls s) (settingOf l) (l .value)
 
 -- lines that are apart: each is what is wanted of its own cell
-wanted-own : (ls : List Line) (s : Settings) → Apart ls → Each (λ (l : Line). wanted ls s (cellOf l) ≡ l .value) ls
+wanted-own : (ls : List Line) (s : Settings) → Apart ls → Each (λ (l : Line). wanted ls s (settingOf l) ≡ l .value) ls
 wanted-own [] s a = tt
 wanted-own (k ∷ ls) s a =
-    (rw (cell-self (cellOf k)), each-zip (λ l. sameCell k l ≡ false) (λ l. wanted ls s (cellOf l) ≡ l .value) (λ l. wanted (k ∷ ls) s (cellOf l) ≡ l .value) ls (λ l other e. rw other e) (a .0) (wanted-own ls s (a .1)))
+    (rw (cell-self (settingOf k)), each-zip (λ l. sameCell k l ≡ false) (λ l. wanted ls s (settingOf l) ≡ l .value) (λ l. wanted (k ∷ ls) s (settingOf l) ≡ l .value) ls (λ l other e. rw other e) (a .0) (wanted-own ls s (a .1)))
 
-wanted-other : (ls : List Line) (s : Settings) (x : Cell) → NotOn ls x → wanted ls s x ≡ s x
+wanted-other : (ls : List Line) (s : Settings) (x : Setting) → NotOn ls x → wanted ls s x ≡ s x
 wanted-other [] s x n = refl
-wanted-other (l ∷ ls) s x n = go (isCell (cellOf l) x) refl (wanted-other ls s x (n .1))
+wanted-other (l ∷ ls) s x n = go (sameSetting (settingOf l) x) refl (wanted-other ls s x (n .1))
   where
-    go : (t : Bool) → isCell (cellOf l) x ≡ t → wanted ls s x ≡ s x → cond t (l .value) (wanted ls s x) ≡ s x
-    go true e rest = absurd (n .0 (is-cell (cellOf l) x e))
+    go : (t : Bool) → sameSetting (settingOf l) x ≡ t → wanted ls s x ≡ s x → cond t (l .value) (wanted ls s x) ≡ s x
+    go true e rest = absurd (n .0 (is-cell (settingOf l) x e))
     go false e rest = rest
 
 module _ (zeros : ℕ) (enough : 255 ≤ zeros) (profile : Profile) (s : Settings) (before : List ℕ) (ls : List Line) (cuts : List ℕ)
@@ -227,11 +228,11 @@ module _ (zeros : ℕ) (enough : 255 ≤ zeros) (profile : Profile) (s : Setting
     between = λ x. inl refl;
   }
 
-  own : Each (λ (l : Line). want (cellOf l) ≡ l .value) ls
+  own : Each (λ (l : Line). want (settingOf l) ≡ l .value) ls
   own = wanted-own ls s apart
 
   pub lines : Each (Wanted profile s want) ls
-  lines = each-zip (λ l. isLegal profile l ≡ true) (λ l. want (cellOf l) ≡ l .value) (Wanted profile s want) ls (λ l e f. (e, f)) legal own
+  lines = each-zip (λ l. isLegal profile l ≡ true) (λ l. want (settingOf l) ≡ l .value) (Wanted profile s want) ls (λ l e f. (e, f)) legal own
 
   moment : (n : ℕ) → Good profile s want (after u (take n sent))
   moment n =
@@ -240,16 +241,16 @@ module _ (zeros : ℕ) (enough : 255 ≤ zeros) (profile : Profile) (s : Setting
 
   kept : Promised u ls sent
   kept = record {
-    sheet = λ n. each-map (λ l. want (cellOf l) ≡ l .value) _ ls (λ l e. to-value e (moment n .between (cellOf l))) own;
+    sheet = λ n. each-map (λ l. want (settingOf l) ≡ l .value) _ ls (λ l e. to-value e (moment n .between (settingOf l))) own;
     others = λ n x none. to-start none (moment n .between x);
-    full = each-zip (λ l. want (cellOf l) ≡ l .value) (Reached profile s want (after u sent)) _ ls (λ l e f. f ∙ e) own (all-full profile s want zeros enough ls lines cuts u start-good);
+    full = each-zip (λ l. want (settingOf l) ≡ l .value) (Reached profile s want (after u sent)) _ ls (λ l e f. f ∙ e) own (all-full profile s want zeros enough ls lines cuts u start-good);
   }
     where
       to-value : {v w a b : ℕ} → w ≡ b → (v ≡ a) ⊎ (v ≡ w) → (v ≡ a) ⊎ (v ≡ b)
       to-value e (inl f) = inl f
       to-value e (inr f) = inr (f ∙ e)
 
-      to-start : {x : Cell} {v : ℕ} → NotOn ls x → (v ≡ s x) ⊎ (v ≡ want x) → v ≡ s x
+      to-start : {x : Setting} {v : ℕ} → NotOn ls x → (v ≡ s x) ⊎ (v ≡ want x) → v ≡ s x
       to-start none (inl f) = f
       to-start {x} none (inr f) = f ∙ wanted-other ls s x none
 

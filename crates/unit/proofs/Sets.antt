@@ -7,13 +7,13 @@ use borrow.Author.Tests.{not-true}
 use lib.Dec.{eqb}
 use Rattle.frame.specs.Frame.{frameOf}
 use Rattle.frame.specs.declared.direction.Direction.the-variants.{Command, Answer}
-use Rattle.frame.proofs.Ruled.{pass-first}
+use Rattle.refusals.proofs.Ruled.{pass-first}
 use Rattle.row.specs.Table.{table, rowOf}
 use Rattle.row.specs.declared.profile.Profile.{Profile}
 use Rattle.row.specs.declared.table.Row.{Row}
 use Rattle.row.specs.declared.table.Found.{Found}
 use Rattle.row.specs.declared.table.Found.the-variants as found
-use Rattle.judging.specs.Judge.{isSetting, isMissing, rowIn, profileZone, noRow, rowZone, rowLines, rowJudged, judgedOf}
+use Rattle.judging.specs.Judge.{isSetting, isMissing, rowIn, profileZone, noRow, rowZone, rowRules, rowJudged, judgedOf}
 use Rattle.message.specs.Content.{contentOf}
 use Rattle.message.specs.Message.{readOf}
 use Rattle.judging.specs.declared.judge.Judged.{Judged}
@@ -29,8 +29,8 @@ use Rattle.sheet.specs.Line.{legalIn, isLegal}
 use Rattle.sheetfile.specs.Run.{lineFrame}
 use Rattle.sheet.specs.declared.line.Line.{Line}
 use Rattle.unit.specs.House.{isNotCalculated, valueAfter}
-use Rattle.unit.specs.Unit.{Cell, value, Settings, put, about, shown, Done, doneBy, frameDone}
-use Rattle.unit.specs.Sending.{cellOf}
+use Rattle.unit.specs.Unit.{Setting, value, Settings, put, about, shown, Done, doneBy, frameDone}
+use Rattle.unit.specs.Sending.{settingOf}
 use Rattle.unit.specs.UnitPromise.{LinePromise}
 use Rattle.unit.proofs.Tests.{clash, implies, implied}
 use Rattle.unit.proofs.Cells.{cell-self}
@@ -45,7 +45,7 @@ pub row-there : (profile : Profile) (zone command : ℕ) (row : Row) → rowJudg
     → (rowOf profile command ≡ found.Row row) × (row ≡ rowIn (rowOf profile command))
 unfolding rowJudged
 row-there profile zone command row e =
-    let is = judged-legal (rowLines profile zone command) (rowIn (rowOf profile command)) row e in
+    let is = judged-legal (rowRules profile zone command) (rowIn (rowOf profile command)) row e in
     let rest = pass-first (profileZone profile zone) (noRow profile command ∷ rowZone (rowIn (rowOf profile command)) zone ∷ []) (is .0) .1 in
     let here = pass-first (noRow profile command) (rowZone (rowIn (rowOf profile command)) zone ∷ []) rest .0 in
     (found-there (rowOf profile command) here ∙ ap found.Row (sym (is .1)), is .1)
@@ -101,7 +101,7 @@ module _ (profile : Profile) (l : Line) (legal : isLegal profile l ≡ true) whe
       let (single, other) = both (not (row .pair)) (not (eqb (row .code) 0x37)) (implied (row .sheet) _ (row-passes plain all-plain profile (l .command) row there) (w .sheet)) in
       (not-true _ single, not-true _ other)
 
-  about-cell : (s : Settings) → about row s (l .zone) (l .command) says ≡ cellOf l
+  about-cell : (s : Settings) → about row s (l .zone) (l .command) says ≡ settingOf l
   about-cell s = let single = is-plain .0 in rw single
 
   calculated : (v : ℕ) → isNotCalculated row v ≡ false
@@ -111,24 +111,24 @@ module _ (profile : Profile) (l : Line) (legal : isLegal profile l ≡ true) whe
   holds v = house-promise profile (l .command) row there .set v (l .value) (calculated v) (w .setting)
 
   -- what is done about a cell, over the row that was found
-  abbrev does : Row → Settings → Cell → Done
+  abbrev does : Row → Settings → Setting → Done
   does r s x =
       let later = put s x (valueAfter r says (s x)) in
       record { settings = later; answer = frameOf Answer (l .zone) (l .command) 0x00 (shown x (later x)) }
 
-  frame-does : (s : Settings) → frameDone profile s (lineFrame l) ≡ does row s (cellOf l)
+  frame-does : (s : Settings) → frameDone profile s (lineFrame l) ≡ does row s (settingOf l)
   unfolding frameDone frameOf
   frame-does s =
       ap (doneBy profile s (l .zone) (l .command)) reads
       ∙ ap (λ (r : Row). does r s (about r s (l .zone) (l .command) says)) (sym (row-there profile (l .zone) (l .command) row (w .judged) .1))
       ∙ ap (does row s) (about-cell s)
 
-  frame-sets : (s : Settings) → frameDone profile s (lineFrame l) .settings ≡ put s (cellOf l) (l .value)
-  frame-sets s = ap (λ (d : Done). d .settings) (frame-does s) ∙ ap (put s (cellOf l)) (holds (s (cellOf l)))
+  frame-sets : (s : Settings) → frameDone profile s (lineFrame l) .settings ≡ put s (settingOf l) (l .value)
+  frame-sets s = ap (λ (d : Done). d .settings) (frame-does s) ∙ ap (put s (settingOf l)) (holds (s (settingOf l)))
 
   frame-answers : (s : Settings) → frameDone profile s (lineFrame l) .answer ≡ frameOf Answer (l .zone) (l .command) 0x00 (l .value ∷ [])
   frame-answers s =
-      let held : does row s (cellOf l) .settings (cellOf l) ≡ l .value = rw (cell-self (cellOf l)) (holds (s (cellOf l))) in
+      let held : does row s (settingOf l) .settings (settingOf l) ≡ l .value = rw (cell-self (settingOf l)) (holds (s (settingOf l))) in
       ap (λ (d : Done). d .answer) (frame-does s) ∙ ap (λ (v : ℕ). frameOf Answer (l .zone) (l .command) 0x00 (v ∷ [])) held
 
 pub line-promise : (profile : Profile) (s : Settings) (l : Line) → LinePromise profile s l

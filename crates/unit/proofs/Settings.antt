@@ -9,15 +9,15 @@ use Rattle.row.specs.declared.table.Row.{Row}
 use Rattle.judging.specs.Judge.{isAnswer, isPair, rowJudged}
 use Rattle.judging.specs.declared.judge.Judged.the-variants as judged
 use Rattle.message.proofs.Tests.{both}
-use Rattle.unit.specs.Unit.{Cell, value, input, current, Settings, isCell, put}
+use Rattle.unit.specs.Unit.{Setting, value, input, current, Settings, sameSetting, put}
 use Rattle.unit.specs.Legal.{Legal, RowIn}
 use Rattle.unit.specs.SettingsPromise.{PutPromise, LegalPromise}
 use Rattle.unit.proofs.Cells.{is-cell, cell-self}
 
-pub put-promise : (s : Settings) (x : Cell) (v : ℕ) → PutPromise s x v
-put-promise s x v = record { held = rw (cell-self x); others = λ y apart. go y (isCell x y) refl apart }
+pub put-promise : (s : Settings) (x : Setting) (v : ℕ) → PutPromise s x v
+put-promise s x v = record { held = rw (cell-self x); others = λ y apart. go y (sameSetting x y) refl apart }
   where
-    go : (y : Cell) (t : Bool) → isCell x y ≡ t → (x ≡ y → ⊥) → cond t v (s y) ≡ s y
+    go : (y : Setting) (t : Bool) → sameSetting x y ≡ t → (x ≡ y → ⊥) → cond t v (s y) ≡ s y
     go y true e apart = absurd (apart (is-cell x y e))
     go y false e apart = refl
 

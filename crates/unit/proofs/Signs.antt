@@ -11,7 +11,7 @@ use Rattle.frame.specs.Reader.{answerTo, takenAfter}
 use Rattle.frame.specs.declared.direction.Direction.the-variants.{Command, Answer}
 use Rattle.row.specs.declared.profile.Profile.{Profile}
 use Rattle.sheet.specs.Line.{isLegal}
-use Rattle.sheetfile.specs.Order.{inOrder}
+use Rattle.lists.specs.InOrder.{inOrder}
 use Rattle.sheetfile.specs.Run.{flush, lineFrame, framesOf, runOf}
 use Rattle.sheet.specs.declared.line.Line.{Line}
 use Rattle.message.specs.Message.{fromReading, frameRead, readOf}
@@ -19,9 +19,9 @@ use Rattle.message.specs.declared.read.Message.{Message}
 use Rattle.message.specs.declared.read.Reading.{Reading}
 use Rattle.message.specs.declared.read.Reading.the-variants as reading
 use Rattle.message.specs.declared.read.FrameReading.the-variants as frame
-use Rattle.tracker.specs.Cell.{cellOf as trackerCell}
-use Rattle.tracker.specs.Tracker.{fresh, keptIn}
-use Rattle.tracker.specs.Feed.{Brought, fedAll}
+use Rattle.tracker.specs.Cell.{settingOf as trackerCell}
+use Rattle.tracker.specs.Tracker.{freshTracker, keptIn}
+use Rattle.tracker.specs.Feed.{BroughtAnswer, answersFed}
 use Rattle.tracker.specs.HistoryPromise.{IsStatus, NoneOf, Last, HistoryPromise}
 use Rattle.signing.specs.SignPromise.{AllHold}
 use Rattle.signing.specs.Capture.{broughtBy}
@@ -40,7 +40,8 @@ use Rattle.sheet.specs.declared.check.Verdict.the-variants as verdict
 use Rattle.sheet.proofs.Sheets.{sheet-promise}
 use Rattle.unit.specs.Unit.{value, Settings, Unit, nothing, Done, done, frameDone, takes, after, replies}
 use Rattle.unit.specs.Legal.{Legal}
-use Rattle.unit.specs.Sending.{Each, Bytes, cellOf, sending, sendings}
+use Rattle.lists.specs.Each.{Each}
+use Rattle.unit.specs.Sending.{Bytes, settingOf, sending, sendings}
 use Rattle.unit.specs.Demand3.{stopped}
 use Rattle.unit.specs.TruthPromise.{tracked, SignedSending}
 use Rattle.unit.proofs.Flush.{Within, opened, zero-nearer, quiet}
@@ -52,10 +53,10 @@ use Rattle.unit.proofs.Truth.{replies-append, brought-append, known-tru
 use Rattle.unit.proofs.Demand.{fit, demand-3}
 
 -- the answer to a legal line's frame
-abbrev answerOf : Line → Brought
+abbrev answerOf : Line → BroughtAnswer
 answerOf l = record { zone = l .zone; command = l .command; answer = 0x00; body = l .value ∷ [] }
 
-abbrev answersOf : List Line → List Brought
+abbrev answersOf : List Line → List BroughtAnswer
 answersOf [] = []
 answersOf (l ∷ ls) = answerOf l ∷ answersOf ls
 
@@ -101,8 +102,8 @@ frames-answered (l ∷ ls) u w near =
     ap broughtBy (replies-append u (lineFrame l) (framesOf ls))
     ∙ brought-append u (lineFrame l) (replies next (framesOf ls))
     ∙ ap (λ (bs : List ℕ). broughtBy bs ++ broughtBy (replies next (framesOf ls))) (line-answers l u (w .0) near)
-    ∙ ap (λ (xs : List Brought). xs ++ broughtBy (replies next (framesOf ls))) (brought-one (l .zone) (l .command) 0x00 (l .value ∷ []))
-    ∙ ap (λ (xs : List Brought). answerOf l ∷ xs) more
+    ∙ ap (λ (xs : List BroughtAnswer). xs ++ broughtBy (replies next (framesOf ls))) (brought-one (l .zone) (l .command) 0x00 (l .value ∷ []))
+    ∙ ap (λ (xs : List BroughtAnswer). answerOf l ∷ xs) more
 
 zeros-near : (n k : ℕ) (u : Unit) → Within Command (n + k) (u .taken) → Within Command k (after u (replicate n 0) .taken)
 unfolding after
@@ -114,7 +115,7 @@ zeros-near (suc n) k u w =
 module _ (profile : Profile) (start want : Settings) (zeros : ℕ) (enough : 255 ≤ zeros) (ls : List Line) (w : Each (Wanted profile start want) ls)
     (legal : Each (λ (l : Line). isLegal profile l ≡ true) ls) where
   abbrev Ends : Unit → List ℕ → Type 0
-  Ends u sent = (earlier : List Brought) × (broughtBy (replies u sent) ≡ earlier ++ answersOf ls)
+  Ends u sent = (earlier : List BroughtAnswer) × (broughtBy (replies u sent) ≡ earlier ++ answersOf ls)
 
   one-sending : (u : Unit) → Good profile start want u → Ends u (sending zeros ls)
   one-sending u g =
@@ -124,7 +125,7 @@ module _ (profile : Profile) (start want : Settings) (zeros : ℕ) (enough : 255
         broughtBy (replies u (replicate zeros 0)),
         ap broughtBy (replies-append u (replicate zeros 0) (framesOf ls))
             ∙ brought-append u (replicate zeros 0) (replies flushed (framesOf ls))
-            ∙ ap (λ (xs : List Brought). broughtBy (replies u (replicate zeros 0)) ++ xs) (frames-answered ls flushed (rw family legal) near),
+            ∙ ap (λ (xs : List BroughtAnswer). broughtBy (replies u (replicate zeros 0)) ++ xs) (frames-answered ls flushed (rw family legal) near),
       )
 
   all-sendings : (cuts : List ℕ) (u : Unit) → Good profile start want u → Ends u (sendings cuts (sending zeros ls))
@@ -137,12 +138,12 @@ module _ (profile : Profile) (start want : Settings) (zeros : ℕ) (enough : 255
         broughtBy (replies u part) ++ more .0,
         ap broughtBy (replies-append u part (sendings cuts (sending zeros ls)))
             ∙ brought-append u part (replies next (sendings cuts (sending zeros ls)))
-            ∙ ap (λ (xs : List Brought). broughtBy (replies u part) ++ xs) (more .1)
+            ∙ ap (λ (xs : List BroughtAnswer). broughtBy (replies u part) ++ xs) (more .1)
             ∙ sym (append-assoc (broughtBy (replies u part)) (more .0) (answersOf ls)),
       )
 
 -- a status among the answers
-none-behind : (profile : Profile) (zone command : ℕ) (xs ys : List Brought) → NoneOf profile zone command (xs ++ ys) → NoneOf profile zone command ys
+none-behind : (profile : Profile) (zone command : ℕ) (xs ys : List BroughtAnswer) → NoneOf profile zone command (xs ++ ys) → NoneOf profile zone command ys
 none-behind profile zone command [] ys n = n
 none-behind profile zone command (x ∷ xs) ys n = none-behind profile zone command xs ys (n .1)
 
@@ -163,10 +164,10 @@ line-status profile s legal l e =
 
 -- so each line's row and zone are known
 module _ (profile : Profile) (s : Settings) (legal : Legal profile s) where
-  abbrev Known : List Brought → Line → Type 0
-  Known fs l = (b : ℕ) × (keptIn (fedAll (fresh profile) fs) (l .zone) (l .command) ≡ Value b)
+  abbrev Known : List BroughtAnswer → Line → Type 0
+  Known fs l = (b : ℕ) × (keptIn (answersFed (freshTracker profile) fs) (l .zone) (l .command) ≡ Value b)
 
-  known-by : (fs : List Brought) (l : Line) → isLegal profile l ≡ true → (NoneOf profile (l .zone) (l .command) fs → ⊥) → Known fs l
+  known-by : (fs : List BroughtAnswer) (l : Line) → isLegal profile l ≡ true → (NoneOf profile (l .zone) (l .command) fs → ⊥) → Known fs l
   known-by fs l e some =
       let c = legal-cell profile l e in
       let h = history-promise profile (l .zone) (l .command) (c .0) (c .1) fs in
@@ -177,18 +178,18 @@ module _ (profile : Profile) (s : Settings) (legal : Legal profile s) where
       go h (inl none) = absurd (some none)
       go h (inr w) = (w .0, h .last (w .0) (w .1))
 
-  all-known : (earlier : List Brought) (ls : List Line) → Each (λ (l : Line). isLegal profile l ≡ true) ls → Each (Known (earlier ++ answersOf ls)) ls
+  all-known : (earlier : List BroughtAnswer) (ls : List Line) → Each (λ (l : Line). isLegal profile l ≡ true) ls → Each (Known (earlier ++ answersOf ls)) ls
   all-known earlier [] w = tt
   all-known earlier (l ∷ ls) w =
       let here : NoneOf profile (l .zone) (l .command) (earlier ++ answerOf l ∷ answersOf ls) → ⊥ =
       λ n. none-behind profile (l .zone) (l .command) earlier (answerOf l ∷ answersOf ls) n .0 (line-status profile s legal l (w .0)) in (
         known-by (earlier ++ answerOf l ∷ answersOf ls) l (w .0) here,
-        subst (λ (fs : List Brought). Each (Known fs) ls) (append-assoc earlier (answerOf l ∷ []) (answersOf ls)) (all-known (earlier ++ answerOf l ∷ []) ls (w .1)),
+        subst (λ (fs : List BroughtAnswer). Each (Known fs) ls) (append-assoc earlier (answerOf l ∷ []) (answersOf ls)) (all-known (earlier ++ answerOf l ∷ []) ls (w .1)),
       )
 
 -- a line whose cell is known to the tracker, and true of the unit, and set in the unit, holds
 module _ (t : Tracker) (now : Settings) (true-now : (zone command b : ℕ) → keptIn t zone command ≡ Value b → now (value zone command) ≡ b) where
-  all-hold : (ls : List Line) → Each (λ (l : Line). (b : ℕ) × (keptIn t (l .zone) (l .command) ≡ Value b)) ls → Each (λ (l : Line). now (cellOf l) ≡ l .value) ls → AllHold t ls
+  all-hold : (ls : List Line) → Each (λ (l : Line). (b : ℕ) × (keptIn t (l .zone) (l .command) ≡ Value b)) ls → Each (λ (l : Line). now (settingOf l) ≡ l .value) ls → AllHold t ls
   all-hold [] k h = tt
   all-hold (l ∷ ls) k h =
       let same : k .0 .0 ≡ l .value = sym (true-now (l .zone) (l .command) (k .0 .0) (k .0 .1)) ∙ h .0 in
@@ -207,7 +208,7 @@ signs-full profile s before sheet cuts legal bytes accepted =
     let w = lines flush (omega arith) profile s before sheet cuts bytes (f .legal) (f .apart) in
     let ends = all-sendings profile s want flush (omega arith) sheet w (f .legal) cuts u good in
     let t = tracked profile (replies u sent) in
-    let known = subst (λ (fs : List Brought). Each (λ (l : Line). (b : ℕ) × (keptIn (fedAll (fresh profile) fs) (l .zone) (l .command) ≡ Value b)) sheet) (sym (ends .1)) (all-known profile s legal (ends .0) sheet (f .legal)) in
+    let known = subst (λ (fs : List BroughtAnswer). Each (λ (l : Line). (b : ℕ) × (keptIn (answersFed (freshTracker profile) fs) (l .zone) (l .command) ≡ Value b)) sheet) (sym (ends .1)) (all-known profile s legal (ends .0) sheet (f .legal)) in
     let full = demand-3 .holds profile s before sheet cuts bytes accepted .full in
     sign-promise t sheet .yes (its-verdict profile (broughtBy (replies u sent)) sheet ∙ accepted)
     (all-hold t (after u sent .settings) (known-true u sent legal) sheet known full)

@@ -19,9 +19,9 @@ use Rattle.message.specs.declared.read.Message.the-variants as message
 use Rattle.message.specs.declared.read.Reading.the-variants as reading
 use Rattle.sheet.specs.declared.line.Line.{Line}
 use Rattle.tracker.specs.Cell.{cellOf}
-use Rattle.tracker.specs.Tracker.{fresh, keptIn}
+use Rattle.tracker.specs.Tracker.{freshTracker, keptIn}
 use Rattle.tracker.specs.Feed as feed
-use Rattle.tracker.specs.Feed.{Brought, fedAll}
+use Rattle.tracker.specs.Feed.{BroughtAnswer, answersFed}
 use Rattle.tracker.specs.FeedPromise.{FeedPromise}
 use Rattle.signing.specs.Sign.{signOff}
 use Rattle.signing.specs.SignPromise.{AllHold}
@@ -36,10 +36,10 @@ use Rattle.tracker.proofs.History.{Fit, fit-all, fed-append, history-promise}
 use Rattle.signing.proofs.Signs.{sign-promise}
 use Rattle.signing.proofs.CaptureSigns.{capture-promise, short}
 use Rattle.unit.specs.House.{valueAfter}
-use Rattle.unit.specs.Unit.{Cell, value, input, Settings, isCell, put, Unit, about, shown, Done, refusalCode, refused, acted, zoneIn, commandIn, frameDone, done, takes, after, replies}
+use Rattle.unit.specs.Unit.{Setting, value, input, Settings, sameSetting, put, Unit, about, shown, Done, refusalCode, refused, acted, zoneIn, commandIn, frameDone, done, takes, after, replies}
 use Rattle.unit.specs.Legal.{Legal}
 use Rattle.unit.specs.Sending as sending
-use Rattle.unit.specs.Sending.{Each}
+use Rattle.lists.specs.Each.{Each}
 use Rattle.unit.specs.TruthPromise.{tracked as tracked-by, TruthPromise}
 use Rattle.unit.proofs.Acts.{either, rowFor, Accepted}
 use Rattle.unit.proofs.Answers.{denied-reads, reads-said, which-cell}
@@ -51,11 +51,11 @@ abbrev Splits : List ℕ → Type 0
 Splits bytes = (rest : List ℕ) → broughtBy (bytes ++ rest) ≡ broughtBy bytes ++ broughtBy rest
 
 splits-none : Splits []
-splits-none rest = ap (λ (xs : List Brought). xs ++ broughtBy rest) (sym brought-none)
+splits-none rest = ap (λ (xs : List BroughtAnswer). xs ++ broughtBy rest) (sym brought-none)
 
 splits-frame : (zone command ac : ℕ) (body : List ℕ) → Splits (frameOf Answer zone command ac body)
 splits-frame zone command ac body rest =
-    brought-behind zone command ac body rest ∙ ap (λ (xs : List Brought). xs ++ broughtBy rest) (sym (brought-one zone command ac body))
+    brought-behind zone command ac body rest ∙ ap (λ (xs : List BroughtAnswer). xs ++ broughtBy rest) (sym (brought-one zone command ac body))
 
 done-splits : (u : Unit) (b : ℕ) → Splits (done u b .answer)
 done-splits u b =
@@ -78,9 +78,9 @@ brought-append u [] rest = splits-none rest
 brought-append u (b ∷ bs) rest =
     ap broughtBy (append-assoc (done u b .answer) (replies (takes u b) bs) rest)
     ∙ done-splits u b (replies (takes u b) bs ++ rest)
-    ∙ ap (λ (xs : List Brought). broughtBy (done u b .answer) ++ xs) (brought-append (takes u b) bs rest)
+    ∙ ap (λ (xs : List BroughtAnswer). broughtBy (done u b .answer) ++ xs) (brought-append (takes u b) bs rest)
     ∙ sym (append-assoc (broughtBy (done u b .answer)) (broughtBy (replies (takes u b) bs)) (broughtBy rest))
-    ∙ ap (λ (xs : List Brought). xs ++ broughtBy rest) (sym (done-splits u b (replies (takes u b) bs)))
+    ∙ ap (λ (xs : List BroughtAnswer). xs ++ broughtBy rest) (sym (done-splits u b (replies (takes u b) bs)))
 
 -- what is known is true of these settings
 abbrev True : Tracker → Settings → Type 0
@@ -99,11 +99,11 @@ no-cell-not : (b : ℕ) → kept.NoCell ≡ kept.Value b → ⊥
 no-cell-not b e = let z : _≡_ {A = ℕ} 0 1 = cc in omega arith
 
 -- an answer that shows one cell, which is its row's or an input's, and the settings in which that cell alone may differ
-module _ (profile : Profile) (t : Tracker) (fit : Fit profile t) (s : Settings) (true-before : True t s) (z k : ℕ) (x : Cell) (v : ℕ)
+module _ (profile : Profile) (t : Tracker) (fit : Fit profile t) (s : Settings) (true-before : True t s) (z k : ℕ) (x : Setting) (v : ℕ)
     (which : (x ≡ value z k) ⊎ ((i : ℕ) × (x ≡ input i))) (said : Said)
     (reads : readOf profile Answer z k 0x00 (shown x (put s x v x)) ≡ reading.Message (message.Status said)) where
   abbrev next : Tracker
-  next = feed.after t z k 0x00 (shown x (put s x v x))
+  next = feed.afterAnswer t z k 0x00 (shown x (put s x v x))
 
   promise : FeedPromise t z k 0x00 (shown x (put s x v x))
   promise = feed-promise t z k 0x00 (shown x (put s x v x))
@@ -121,8 +121,8 @@ module _ (profile : Profile) (t : Tracker) (fit : Fit profile t) (s : Settings) 
           by-test false q e f = refl
 
       go : (x ≡ value z k) ⊎ ((i : ℕ) × (x ≡ input i)) → put s x v (value zone command) ≡ s (value zone command)
-      go (inl e) = ap (λ (y : Cell). cond (isCell y (value zone command)) v (s (value zone command))) e ∙ rw apart
-      go (inr e) = ap (λ (y : Cell). cond (isCell y (value zone command)) v (s (value zone command))) (e .1)
+      go (inl e) = ap (λ (y : Setting). cond (sameSetting y (value zone command)) v (s (value zone command))) e ∙ rw apart
+      go (inr e) = ap (λ (y : Setting). cond (sameSetting y (value zone command)) v (s (value zone command))) (e .1)
 
   -- its own
   own-known : (i : ℕ) → cellOf profile z k ≡ cell.At i → (b : ℕ) → keptIn next z k ≡ kept.Value b → put s x v (value z k) ≡ b
@@ -132,8 +132,8 @@ module _ (profile : Profile) (t : Tracker) (fit : Fit profile t) (s : Settings) 
     where
       go : (x ≡ value z k) ⊎ ((i : ℕ) × (x ≡ input i)) → shown x (put s x v x) ≡ b ∷ [] → put s x v (value z k) ≡ b
       go (inl f) h =
-          ap (λ (y : Cell). put s x v y) (sym f) ∙ one-same (put s x v x) b (ap (λ (y : Cell). shown y (put s x v x)) (sym f) ∙ h)
-      go (inr f) h = absurd (two-not (f .0) (put s x v x) b (ap (λ (y : Cell). shown y (put s x v x)) (sym (f .1)) ∙ h))
+          ap (λ (y : Setting). put s x v y) (sym f) ∙ one-same (put s x v x) b (ap (λ (y : Setting). shown y (put s x v x)) (sym f) ∙ h)
+      go (inr f) h = absurd (two-not (f .0) (put s x v x) b (ap (λ (y : Setting). shown y (put s x v x)) (sym (f .1)) ∙ h))
 
   own : (b : ℕ) → keptIn next z k ≡ kept.Value b → put s x v (value z k) ≡ b
   unfolding keptIn
@@ -163,11 +163,11 @@ module _ (profile : Profile) (t : Tracker) (fit : Fit profile t) (s : Settings) 
 -- a frame
 module _ (profile : Profile) (s : Settings) (legal : Legal profile s) (t : Tracker) (fit : Fit profile t) (true-before : True t s) (bytes : List ℕ) where
   abbrev Heard : Done → Type 0
-  Heard d = True (fedAll t (broughtBy (d .answer))) (d .settings)
+  Heard d = True (answersFed t (broughtBy (d .answer))) (d .settings)
 
-  one-fed : (zone command ac : ℕ) (body : List ℕ) → fedAll t (broughtBy (frameOf Answer zone command ac body)) ≡ feed.after t zone command ac body
-  unfolding fedAll
-  one-fed zone command ac body = ap (fedAll t) (brought-one zone command ac body)
+  one-fed : (zone command ac : ℕ) (body : List ℕ) → answersFed t (broughtBy (frameOf Answer zone command ac body)) ≡ feed.afterAnswer t zone command ac body
+  unfolding answersFed
+  one-fed zone command ac body = ap (answersFed t) (brought-one zone command ac body)
 
   refused-true : (n : ℕ) → Heard (refused s (zoneIn bytes) (commandIn bytes) n)
   refused-true n =
@@ -193,21 +193,21 @@ module _ (profile : Profile) (s : Settings) (legal : Legal profile s) (t : Track
 
 -- any bytes
 true-on : (u : Unit) (sent : List ℕ) → Legal (u .profile) (u .settings) → (t : Tracker) → Fit (u .profile) t → True t (u .settings)
-    → True (fedAll t (broughtBy (replies u sent))) (after u sent .settings)
-unfolding replies after fedAll
-true-on u [] legal t fit h = subst (λ (fs : List Brought). True (fedAll t fs) (u .settings)) (sym brought-none) h
+    → True (answersFed t (broughtBy (replies u sent))) (after u sent .settings)
+unfolding replies after answersFed
+true-on u [] legal t fit h = subst (λ (fs : List BroughtAnswer). True (answersFed t fs) (u .settings)) (sym brought-none) h
 true-on u (b ∷ bs) legal t fit h =
-    let next = fedAll t (broughtBy (done u b .answer)) in
+    let next = answersFed t (broughtBy (done u b .answer)) in
     let step : True next (takes u b .settings) =
-    by-frame u b (λ (d : Done). True (fedAll t (broughtBy (d .answer))) (d .settings))
-    (subst (λ (fs : List Brought). True (fedAll t fs) (u .settings)) (sym brought-none) h)
+    by-frame u b (λ (d : Done). True (answersFed t (broughtBy (d .answer))) (d .settings))
+    (subst (λ (fs : List BroughtAnswer). True (answersFed t fs) (u .settings)) (sym brought-none) h)
     (frame-true (u .profile) (u .settings) legal t fit h (u .taken ++ b ∷ [])) in
     let rest = true-on (takes u b) bs (unit-promise u (b ∷ []) .legal legal) next (fit-all (u .profile) t (broughtBy (done u b .answer)) fit) step in
     subst (λ (y : Tracker). True y (after (takes u b) bs .settings))
-    (sym (ap (fedAll t) (done-splits u b (replies (takes u b) bs)) ∙ fed-append t (broughtBy (done u b .answer)) (broughtBy (replies (takes u b) bs)))) rest
+    (sym (ap (answersFed t) (done-splits u b (replies (takes u b) bs)) ∙ fed-append t (broughtBy (done u b .answer)) (broughtBy (replies (takes u b) bs)))) rest
 
-fresh-true : (profile : Profile) (s : Settings) → True (fresh profile) s
-unfolding keptIn fedAll
+fresh-true : (profile : Profile) (s : Settings) → True (freshTracker profile) s
+unfolding keptIn answersFed
 fresh-true profile s zone command b e = go (cellOf profile zone command) refl
   where
     unknown-not : kept.Unknown ≡ kept.Value b → ⊥
@@ -216,13 +216,13 @@ fresh-true profile s zone command b e = go (cellOf profile zone command) refl
     go : (y : tracked.Cell) → cellOf profile zone command ≡ y → s (value zone command) ≡ b
     go (cell.At i) f = absurd (unknown-not (sym (history-promise profile zone command i f [] .unknown tt) ∙ e))
     go cell.NoCell f =
-        let none : keptIn (fresh profile) zone command ≡ kept.NoCell = rw f in
+        let none : keptIn (freshTracker profile) zone command ≡ kept.NoCell = rw f in
         absurd (no-cell-not b (sym none ∙ e))
 
 pub known-true : (u : Unit) (sent : List ℕ) → Legal (u .profile) (u .settings) → True (tracked-by (u .profile) (replies u sent)) (after u sent .settings)
-known-true u sent legal = true-on u sent legal (fresh (u .profile)) (refl, (refl, refl)) (fresh-true (u .profile) (u .settings))
+known-true u sent legal = true-on u sent legal (freshTracker (u .profile)) (refl, (refl, refl)) (fresh-true (u .profile) (u .settings))
 
-held-by : (t : Tracker) (s : Settings) → True t s → (ls : List Line) → AllHold t ls → Each (λ (l : Line). s (sending.cellOf l) ≡ l .value) ls
+held-by : (t : Tracker) (s : Settings) → True t s → (ls : List Line) → AllHold t ls → Each (λ (l : Line). s (sending.settingOf l) ≡ l .value) ls
 held-by t s h [] w = tt
 held-by t s h (l ∷ ls) w = (h (l .zone) (l .command) (l .value) (w .0), held-by t s h ls (w .1))
 
@@ -236,7 +236,7 @@ truth-promise u sent = record {
 }
   where
     signed : Legal (u .profile) (u .settings) → (ls : List Line) → signOff (tracked-by (u .profile) (replies u sent)) ls ≡ Yes
-        → Each (λ (l : Line). after u sent .settings (sending.cellOf l) ≡ l .value) ls
+        → Each (λ (l : Line). after u sent .settings (sending.settingOf l) ≡ l .value) ls
     signed legal ls e =
         held-by (tracked-by (u .profile) (replies u sent)) (after u sent .settings) (known-true u sent legal) ls
         (sign-promise (tracked-by (u .profile) (replies u sent)) ls .only e .1)

@@ -18,16 +18,16 @@ use Rattle.judging.specs.Judge.{isAnswer, rowJudged}
 use Rattle.message.specs.Content.{contentOf}
 use Rattle.message.specs.Message.{readOf}
 use Rattle.message.proofs.Tidy.{every, row-passes}
-use Rattle.sheetfile.specs.Order.{inOrder}
+use Rattle.lists.specs.InOrder.{inOrder}
 use Rattle.sheet.specs.Line.{isLegal, isRepeated}
 use Rattle.sheet.specs.Check.{lowestFault, sheetVerdict}
 use Rattle.sheetfile.specs.Run.{runOf}
 use Rattle.sheet.specs.declared.line.Line.{Line}
 use Rattle.sheet.specs.declared.check.Verdict.the-variants.{Accepted}
-use Rattle.unit.specs.Unit.{Cell, value, input, current, isCell, Unit, Holds, frameDone, after}
+use Rattle.unit.specs.Unit.{Setting, value, input, current, sameSetting, Unit, Holds, frameDone, after}
 use Rattle.unit.specs.Legal.{Legal, RowIn}
-use Rattle.unit.specs.Sending.{cellOf, NotOn, sending, sendings}
-use Rattle.unit.specs.UnitTablePromise.{zeros}
+use Rattle.unit.specs.Sending.{settingOf, NotOn, sending, sendings}
+use Rattle.unit.specs.UnitTablePromise.{zeroSettings}
 use Rattle.unit.specs.Demand3.{stopped, moment, Promised}
 use Rattle.unit.specs.SendingPromise.{SendingPromise, FlushPromise}
 use Rattle.message.proofs.Tests.{both}
@@ -45,7 +45,7 @@ zero-fits : every zeroFits table ≡ true
 unfolding table
 zero-fits = refl
 
-pub zeros-legal : (profile : Profile) → Legal profile zeros
+pub zeros-legal : (profile : Profile) → Legal profile zeroSettings
 zeros-legal profile = record {
   rows = λ z c row there single. rw single at (fits z c row there);
   inputs = λ z c row there paired i known. rw (paired, known);
@@ -76,9 +76,9 @@ abbrev before : List ℕ
 before = 0x21 ∷ 0x01 ∷ 0x3A ∷ 0xFF ∷ 0x05 ∷ []
 
 abbrev start : Unit
-start = stopped A zeros before
+start = stopped A zeroSettings before
 
-pub differs : map (λ (l : Line). eqb (zeros (cellOf l)) (l .value)) twelve ≡ replicate 12 false
+pub differs : map (λ (l : Line). eqb (zeroSettings (settingOf l)) (l .value)) twelve ≡ replicate 12 false
 differs = refl
 
 -- the plug pulled after 277 bytes, inside the fourth frame; pulled again inside the flush; then a full run
@@ -90,12 +90,12 @@ sent = sendings cuts (runOf twelve)
 
 pub applied : Promised start twelve sent
 applied =
-    demand-3 .holds A zeros before twelve cuts
+    demand-3 .holds A zeroSettings before twelve cuts
     (omega arith, (omega arith, (omega arith, (omega arith, (omega arith, tt))))) accepted
 
 -- what it says, computed beside it: at the first cut three lines are set and the reader stands inside the fourth's frame; at the end
 -- all are
-pub pulled : map (λ (l : Line). moment start sent 277 .settings (cellOf l)) twelve ≡ 0x02 ∷ 0x01 ∷ 0x02 ∷ replicate 9 0x00
+pub pulled : map (λ (l : Line). moment start sent 277 .settings (settingOf l)) twelve ≡ 0x02 ∷ 0x01 ∷ 0x02 ∷ replicate 9 0x00
 unfolding runOf inOrder after frameDone frameOf answerTo takenAfter takenBy readOf contentOf firstRow table numberOf codeOf plainCodeOf
 pulled = refl
 
@@ -104,24 +104,24 @@ unfolding runOf inOrder after frameDone frameOf answerTo takenAfter takenBy read
 pulled-inside = refl
 
 -- the second sending, cut too, has added nothing by then
-pub pulled-again : map (λ (l : Line). moment start sent 377 .settings (cellOf l)) twelve ≡ 0x02 ∷ 0x01 ∷ 0x02 ∷ replicate 9 0x00
+pub pulled-again : map (λ (l : Line). moment start sent 377 .settings (settingOf l)) twelve ≡ 0x02 ∷ 0x01 ∷ 0x02 ∷ replicate 9 0x00
 unfolding runOf inOrder after frameDone frameOf answerTo takenAfter takenBy readOf contentOf firstRow table numberOf codeOf plainCodeOf
 pulled-again = refl
 
-pub reached : map (λ (l : Line). after start sent .settings (cellOf l)) twelve ≡ map (λ (l : Line). l .value) twelve
+pub reached : map (λ (l : Line). after start sent .settings (settingOf l)) twelve ≡ map (λ (l : Line). l .value) twelve
 unfolding runOf inOrder after frameDone frameOf answerTo takenAfter takenBy readOf contentOf firstRow table numberOf codeOf plainCodeOf
 reached = refl
 
 -- settings that are not on the sheet, a row's, an input's and the current input, at every moment
-abbrev isNotOn : List Line → Cell → Bool
+abbrev isNotOn : List Line → Setting → Bool
 isNotOn [] x = true
-isNotOn (l ∷ ls) x = not (isCell (cellOf l) x) && isNotOn ls x
+isNotOn (l ∷ ls) x = not (sameSetting (settingOf l) x) && isNotOn ls x
 
-not-on : (ls : List Line) (x : Cell) → isNotOn ls x ≡ true → NotOn ls x
+not-on : (ls : List Line) (x : Setting) → isNotOn ls x ≡ true → NotOn ls x
 not-on [] x e = tt
 not-on (l ∷ ls) x e =
-    let (first, rest) = both (not (isCell (cellOf l) x)) (isNotOn ls x) e in
-    (λ same. clash (sym (ap not (ap (λ (y : Cell). isCell y x) same ∙ cell-self x)) ∙ first), not-on ls x rest)
+    let (first, rest) = both (not (sameSetting (settingOf l) x)) (isNotOn ls x) e in
+    (λ same. clash (sym (ap not (ap (λ (y : Setting). sameSetting y x) same ∙ cell-self x)) ∙ first), not-on ls x rest)
 
 pub untouched : (n : ℕ)
     → Holds (moment start sent n) (value 1 0x45) 0x00 × Holds (moment start sent n) (input 0x06) 0x00 × Holds (moment start sent n) current 0x01
@@ -133,7 +133,7 @@ untouched n = (
 
 -- a unit stopped after 21 01 3A FF, with all of 255 bytes of data to come, and a sheet of one line
 abbrev stuck : Unit
-stuck = stopped A zeros (0x21 ∷ 0x01 ∷ 0x3A ∷ 0xFF ∷ [])
+stuck = stopped A zeroSettings (0x21 ∷ 0x01 ∷ 0x3A ∷ 0xFF ∷ [])
 
 abbrev single : List Line
 single = line 1 0x3A 0x05 ∷ []
@@ -153,7 +153,7 @@ single-legal = refl
 
 pub too-few : SendingPromise 254 → ⊥
 too-few promise =
-    let held = promise .holds A zeros (0x21 ∷ 0x01 ∷ 0x3A ∷ 0xFF ∷ []) single [] (omega arith, (omega arith, (omega arith, (omega arith, tt)))) (single-legal, tt) (tt, tt) .full .0 in
+    let held = promise .holds A zeroSettings (0x21 ∷ 0x01 ∷ 0x3A ∷ 0xFF ∷ []) single [] (omega arith, (omega arith, (omega arith, (omega arith, tt)))) (single-legal, tt) (tt, tt) .full .0 in
     let z : _≡_ {A = ℕ} 0 5 = sym lost ∙ held in
     omega (arith, z)
 

@@ -15,8 +15,9 @@ use Rattle.sheet.specs.Check.{sheetVerdict}
 use Rattle.sheetfile.specs.Run.{runOf}
 use Rattle.sheet.specs.declared.line.Line.{Line}
 use Rattle.sheet.specs.declared.check.Verdict.the-variants.{Accepted}
-use Rattle.unit.specs.Unit.{Cell, Settings, Unit, Holds, after}
-use Rattle.unit.specs.Sending.{Each, Bytes, cellOf, NotOn, sendings}
+use Rattle.unit.specs.Unit.{Setting, Settings, Unit, Holds, after}
+use Rattle.lists.specs.Each.{Each}
+use Rattle.unit.specs.Sending.{Bytes, settingOf, NotOn, sendings}
 
 -- "its reader outside any frame or stopped anywhere in an old one": whatever bytes came before
 abbrev pub stopped : Profile → Settings → List ℕ → Unit
@@ -30,11 +31,11 @@ moment u bytes n = after u (take n bytes)
 pub record Promised (u : Unit) (ls : List Line) (bytes : List ℕ) : Type 0 where
   -- "at every moment each setting on the sheet holds its starting value or the sheet's"
   pub sheet : (n : ℕ)
-      → Each (λ (l : Line). Holds (moment u bytes n) (cellOf l) (u .settings (cellOf l)) ⊎ Holds (moment u bytes n) (cellOf l) (l .value)) ls
+      → Each (λ (l : Line). Holds (moment u bytes n) (settingOf l) (u .settings (settingOf l)) ⊎ Holds (moment u bytes n) (settingOf l) (l .value)) ls
   -- "every other setting is as it was"
-  pub others : (n : ℕ) (x : Cell) → NotOn ls x → Holds (moment u bytes n) x (u .settings x)
+  pub others : (n : ℕ) (x : Setting) → NotOn ls x → Holds (moment u bytes n) x (u .settings x)
   -- "after the full sending all those on the sheet hold the sheet's values"
-  pub full : Each (λ (l : Line). Holds (after u bytes) (cellOf l) (l .value)) ls
+  pub full : Each (λ (l : Line). Holds (after u bytes) (settingOf l) (l .value)) ls
 
 -- "at any legal settings": at any settings at all
 pub record Demand3 : Type 0 where

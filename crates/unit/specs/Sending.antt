@@ -7,7 +7,7 @@ use lib.ListN.{take, replicate}
 use Rattle.sheet.specs.Line.{sameCell}
 use Rattle.sheetfile.specs.Run.{framesOf}
 use Rattle.sheet.specs.declared.line.Line.{Line}
-use Rattle.unit.specs.Unit.{Cell, value}
+use Rattle.unit.specs.Unit.{Setting, value}
 
 abbrev pub Each : {A : Type 0} → (A → Type 0) → List A → Type 0
 Each P [] = Unit {0}
@@ -17,12 +17,12 @@ abbrev pub Bytes : List ℕ → Type 0
 Bytes bs = Each (λ (b : ℕ). b < 256) bs
 
 -- "each setting on the sheet": a line's zone and row
-abbrev pub cellOf : Line → Cell
-cellOf l = value (l .zone) (l .command)
+abbrev pub settingOf : Line → Setting
+settingOf l = value (l .zone) (l .command)
 
 -- "every other setting": a cell of no line
-abbrev pub NotOn : List Line → Cell → Type 0
-NotOn ls x = Each (λ (l : Line). cellOf l ≡ x → ⊥) ls
+abbrev pub NotOn : List Line → Setting → Type 0
+NotOn ls x = Each (λ (l : Line). settingOf l ≡ x → ⊥) ls
 
 -- no two lines have the same zone and row
 abbrev pub Apart : List Line → Type 0

@@ -8,7 +8,8 @@ use Rattle.row.specs.declared.profile.Profile.{Profile}
 use Rattle.sheet.specs.Line.{isLegal}
 use Rattle.sheet.specs.declared.line.Line.{Line}
 use Rattle.unit.specs.Unit.{Settings}
-use Rattle.unit.specs.Sending.{Each, Bytes, Apart, sending, sendings}
+use Rattle.lists.specs.Each.{Each}
+use Rattle.unit.specs.Sending.{Bytes, Apart, sending, sendings}
 use Rattle.unit.specs.Demand3.{stopped, Promised}
 
 pub record SendingPromise (zeros : ℕ) : Type 0 where

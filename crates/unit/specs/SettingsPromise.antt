@@ -6,12 +6,12 @@ use mathlib.Core.Bool.{true, false}
 use Rattle.row.specs.declared.profile.Profile.{Profile}
 use Rattle.row.specs.declared.table.Row.{Row}
 use Rattle.judging.specs.Judge.{isAnswer, isPair}
-use Rattle.unit.specs.Unit.{Cell, value, input, current, Settings, put}
+use Rattle.unit.specs.Unit.{Setting, value, input, current, Settings, put}
 use Rattle.unit.specs.Legal.{Legal, RowIn}
 
-pub record PutPromise (s : Settings) (x : Cell) (v : ℕ) : Type 0 where
+pub record PutPromise (s : Settings) (x : Setting) (v : ℕ) : Type 0 where
   pub held : put s x v x ≡ v
-  pub others : (y : Cell) → (x ≡ y → ⊥) → put s x v y ≡ s y
+  pub others : (y : Setting) → (x ≡ y → ⊥) → put s x v y ≡ s y
 
 pub record LegalPromise (profile : Profile) (s : Settings) (legal : Legal profile s) (v : ℕ) : Type 0 where
   pub row-value : (zone command : ℕ) (row : Row) → RowIn profile zone command row → isAnswer row v ≡ true → Legal profile (put s (value zone command) v)

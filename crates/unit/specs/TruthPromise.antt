@@ -12,8 +12,8 @@ use Rattle.sheet.specs.Check.{sheetVerdict}
 use Rattle.sheetfile.specs.Run.{runOf}
 use Rattle.sheet.specs.declared.line.Line.{Line}
 use Rattle.sheet.specs.declared.check.Verdict.the-variants as verdict
-use Rattle.tracker.specs.Tracker.{fresh, keptIn}
-use Rattle.tracker.specs.Feed.{fedAll}
+use Rattle.tracker.specs.Tracker.{freshTracker, keptIn}
+use Rattle.tracker.specs.Feed.{answersFed}
 use Rattle.signing.specs.Sign.{signOff}
 use Rattle.signing.specs.Capture.{broughtBy, captureSigned}
 use Rattle.tracker.specs.declared.tracker.Tracker.{Tracker}
@@ -21,22 +21,23 @@ use Rattle.tracker.specs.declared.tracker.Kept.the-variants.{Value}
 use Rattle.signing.specs.declared.sign.Signed.the-variants.{Yes}
 use Rattle.unit.specs.Unit.{value, Settings, Unit, Holds, after, replies}
 use Rattle.unit.specs.Legal.{Legal}
-use Rattle.unit.specs.Sending.{Each, Bytes, cellOf, sendings}
+use Rattle.lists.specs.Each.{Each}
+use Rattle.unit.specs.Sending.{Bytes, settingOf, sendings}
 use Rattle.unit.specs.Demand3.{stopped}
 
 -- the tracker that was made new, and fed what the frames among these bytes bring
 abbrev pub tracked : Profile → List ℕ → Tracker
-tracked profile answers = fedAll (fresh profile) (broughtBy answers)
+tracked profile answers = answersFed (freshTracker profile) (broughtBy answers)
 
 -- the unit after some bytes, and the tracker then
 pub record TruthPromise (u : Unit) (sent : List ℕ) : Type 0 where
   pub known : Legal (u .profile) (u .settings) → (zone command b : ℕ) → keptIn (tracked (u .profile) (replies u sent)) zone command ≡ Value b
       → Holds (after u sent) (value zone command) b
   pub signed : Legal (u .profile) (u .settings) → (ls : List Line) → signOff (tracked (u .profile) (replies u sent)) ls ≡ Yes
-      → Each (λ (l : Line). Holds (after u sent) (cellOf l) (l .value)) ls
+      → Each (λ (l : Line). Holds (after u sent) (settingOf l) (l .value)) ls
   -- the same of the sign-off by a capture of all the answers
   pub captured : Legal (u .profile) (u .settings) → (ls : List Line) → captureSigned (u .profile) ls (replies u sent) ≡ Yes
-      → Each (λ (l : Line). Holds (after u sent) (cellOf l) (l .value)) ls
+      → Each (λ (l : Line). Holds (after u sent) (settingOf l) (l .value)) ls
 
 pub record SignedSending : Type 0 where
   pub signs : (profile : Profile) (s : Settings) (before : List ℕ) (sheet : List Line) (cuts : List ℕ)

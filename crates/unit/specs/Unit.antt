@@ -27,28 +27,28 @@ use Rattle.message.specs.declared.read.Reading.the-variants as reading
 use Rattle.unit.specs.House.{valueAfter}
 
 -- what a unit has a value for: a zone and a row, which its command names; "S 0F: a value per input and a current input"
-pub data Cell : Type 0 where
-  value : ℕ → ℕ → Cell
-  input : ℕ → Cell
-  current : Cell
+pub data Setting : Type 0 where
+  value : ℕ → ℕ → Setting
+  input : ℕ → Setting
+  current : Setting
 
 abbrev pub Settings : Type 0
-Settings = Cell → ℕ
+Settings = Setting → ℕ
 
-abbrev pub isCell : Cell → Cell → Bool
-isCell (value zone command) (value z c) = eqb zone z && eqb command c
-isCell (value zone command) (input j) = false
-isCell (value zone command) current = false
-isCell (input i) (value z c) = false
-isCell (input i) (input j) = eqb i j
-isCell (input i) current = false
-isCell current (value z c) = false
-isCell current (input j) = false
-isCell current current = true
+abbrev pub sameSetting : Setting → Setting → Bool
+sameSetting (value zone command) (value z c) = eqb zone z && eqb command c
+sameSetting (value zone command) (input j) = false
+sameSetting (value zone command) current = false
+sameSetting (input i) (value z c) = false
+sameSetting (input i) (input j) = eqb i j
+sameSetting (input i) current = false
+sameSetting current (value z c) = false
+sameSetting current (input j) = false
+sameSetting current current = true
 
 -- one cell holds this value, and every other what it held
-abbrev pub put : Settings → Cell → ℕ → Settings
-put s x v y = cond (isCell x y) v (s y)
+abbrev pub put : Settings → Setting → ℕ → Settings
+put s x v y = cond (sameSetting x y) v (s y)
 
 -- "A unit is a command reader plus one legal answer value per row and zone": the reader is the bytes that it has taken of a frame
 pub record Unit : Type 0 where
@@ -57,7 +57,7 @@ pub record Unit : Type 0 where
   pub settings : Settings
 
 -- wherever a unit's setting is compared with a value, it is by this
-abbrev pub Holds : Unit → Cell → ℕ → Type 0
+abbrev pub Holds : Unit → Setting → ℕ → Type 0
 Holds u x v = u .settings x ≡ v
 
 -- the cell that a command is about: its row's value in its zone; "For S 0F a request answers for the current input, a setting for the
@@ -67,11 +67,11 @@ named (One b) now = now
 named (Two i on) now = i
 named NoCode now = now
 
-abbrev pub about : Row → Settings → ℕ → ℕ → Content → Cell
+abbrev pub about : Row → Settings → ℕ → ℕ → Content → Setting
 about row s zone command c = cond (row .pair) (input (named (encodedOf row c) (s current))) (value zone command)
 
 -- the data that show a cell's value: the value, and for S 0F the input before it; no command is about the current input itself
-abbrev pub shown : Cell → ℕ → List ℕ
+abbrev pub shown : Setting → ℕ → List ℕ
 shown (value zone command) v = v ∷ []
 shown (input i) v = i ∷ v ∷ []
 shown current v = v ∷ []

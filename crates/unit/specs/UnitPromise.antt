@@ -24,14 +24,14 @@ use Rattle.sheet.specs.Line.{isLegal}
 use Rattle.sheetfile.specs.Run.{lineFrame}
 use Rattle.sheet.specs.declared.line.Line.{Line}
 use Rattle.unit.specs.House.{valueAfter}
-use Rattle.unit.specs.Unit.{Cell, value, input, current, Settings, put, Unit, Done, nothing, shown, refusalCode, zoneIn, commandIn, heard, frameDone, done, takes, after, replies}
+use Rattle.unit.specs.Unit.{Setting, value, input, current, Settings, put, Unit, Done, nothing, shown, refusalCode, zoneIn, commandIn, heard, frameDone, done, takes, after, replies}
 use Rattle.unit.specs.Legal.{Legal}
-use Rattle.unit.specs.Sending.{Bytes, cellOf}
+use Rattle.unit.specs.Sending.{Bytes, settingOf}
 
 -- the answer to a command: its data show a cell as it is after the command, the row's in that zone or an input of S 0F, and the library
 -- reads it as the status of that zone and command
 pub record Told (profile : Profile) (c : Said) (d : Done) : Type 0 where
-  pub cell : Cell
+  pub cell : Setting
   pub which : (cell ≡ value (c .zone) (c .command)) ⊎ ((i : ℕ) × (cell ≡ input i))
   pub shows : d .answer ≡ frameOf Answer (c .zone) (c .command) 0x00 (shown cell (d .settings cell))
   pub status : frameRead profile Answer (d .answer)
@@ -84,7 +84,7 @@ pub record BytePromise (u : Unit) (b : ℕ) : Type 0 where
 
 -- a legal line's frame puts its value in its own cell and touches nothing else, whatever the cell held, and is answered with that value
 pub record LinePromise (profile : Profile) (s : Settings) (l : Line) : Type 0 where
-  pub sets : isLegal profile l ≡ true → frameDone profile s (lineFrame l) .settings ≡ put s (cellOf l) (l .value)
+  pub sets : isLegal profile l ≡ true → frameDone profile s (lineFrame l) .settings ≡ put s (settingOf l) (l .value)
   pub answers : isLegal profile l ≡ true → frameDone profile s (lineFrame l) .answer ≡ frameOf Answer (l .zone) (l .command) 0x00 (l .value ∷ [])
 
 -- of any bytes sent: the settings stay legal, the current input stays, and the answers are bytes

@@ -6,24 +6,24 @@ use Prim.Native.Nat.{ℕ}
 use lib.ListN.{length}
 use Rattle.row.specs.declared.profile.Profile.{Profile}
 use Rattle.row.specs.declared.profile.Profile.the-variants.{A, S}
-use Rattle.unit.specs.Unit.{Cell, value, input, current, Settings, put, Unit, after, replies}
+use Rattle.unit.specs.Unit.{Setting, value, input, current, Settings, put, Unit, after, replies}
 
 -- the settings of a trial but for its cell: 00 in every row, and input 01
-abbrev pub zeros : Settings
-zeros (value zone command) = 0x00
-zeros (input i) = 0x00
-zeros current = 0x01
+abbrev pub zeroSettings : Settings
+zeroSettings (value zone command) = 0x00
+zeroSettings (input i) = 0x00
+zeroSettings current = 0x01
 
 pub record Trial : Type 0 where
   pub profile : Profile
-  pub cell : Cell
+  pub cell : Setting
   pub held : ℕ
   pub sent : List ℕ
   pub answered : List ℕ
   pub holds : ℕ
   pub now : ℕ
 
-abbrev pub trial : Profile → Cell → ℕ → List ℕ → List ℕ → ℕ → Trial
+abbrev pub trial : Profile → Setting → ℕ → List ℕ → List ℕ → ℕ → Trial
 trial profile cell held sent answered holds =
     record { profile = profile; cell = cell; held = held; sent = sent; answered = answered; holds = holds; now = 0x01 }
 
@@ -132,7 +132,7 @@ pub record Outcome : Type 0 where
   pub now : ℕ
 
 abbrev pub started : Trial → Unit
-started t = record { profile = t .profile; taken = []; settings = put zeros (t .cell) (t .held) }
+started t = record { profile = t .profile; taken = []; settings = put zeroSettings (t .cell) (t .held) }
 
 abbrev pub came : Trial → Outcome
 came t = record {
@@ -141,9 +141,9 @@ came t = record {
   now = after (started t) (t .sent) .settings current;
 }
 
-abbrev pub told : Trial → Outcome
-told t = record { answered = t .answered; holds = t .holds; now = t .now }
+abbrev pub nowHeld : Trial → Outcome
+nowHeld t = record { answered = t .answered; holds = t .holds; now = t .now }
 
 pub record UnitTablePromise : Type 0 where
   pub all : length trials ≡ 61
-  pub holds : map came trials ≡ map told trials
+  pub holds : map came trials ≡ map nowHeld trials

@@ -9,16 +9,16 @@ use lib.Dec.{eqb, ltb}
 use lib.ListN.{drop, length, getD, drop-of-length-le}
 use lib.Seq.{drop-cons}
 use borrow.Author.Tests.{eq-eqb, ne-eqb, lt-ltb, le-ltb}
-use Rattle.words.specs.Arguments.{numberOf, longerBy, letterIn, takenOf, keptOf, decodedIn}
+use Rattle.words.specs.Arguments.{argumentNumber, longerBy, letterIn, takenOf, keptOf, decodedIn}
 use Rattle.words.specs.declared.arguments.Arguments.{Arguments}
 use Rattle.words.specs.Names.{find, fitsAt, fitsIn}
 
-pub number-more : (v : ℕ) (xs : List ℕ) (i : ℕ) → i < length xs → numberOf v (drop i xs) ≡ numberOf (longerBy v (getD xs i 0)) (drop (i + 1) xs)
-unfolding numberOf
+pub number-more : (v : ℕ) (xs : List ℕ) (i : ℕ) → i < length xs → argumentNumber v (drop i xs) ≡ argumentNumber (longerBy v (getD xs i 0)) (drop (i + 1) xs)
+unfolding argumentNumber
 number-more v xs i h = rw (add-one, drop-cons xs i 0)
 
-pub number-end : (v : ℕ) (xs : List ℕ) (i : ℕ) → length xs ≤ i → numberOf v (drop i xs) ≡ v
-unfolding numberOf
+pub number-end : (v : ℕ) (xs : List ℕ) (i : ℕ) → length xs ≤ i → argumentNumber v (drop i xs) ≡ v
+unfolding argumentNumber
 number-end v xs i h = rw drop-of-length-le
 
 module _ (xs : List ℕ) (name i : ℕ) where

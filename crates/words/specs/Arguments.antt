@@ -4,7 +4,7 @@ use mathlib.Core.Bool.{cond}
 use mathlib.Core.List.{List, [], _∷_}
 use lib.Dec.{eqb, leb, ltb}
 use lib.ListN.{length, getD, set, replicate}
-use Rattle.fields.specs.Fields.{bytesAt}
+use Rattle.lent.specs.Placed.{bytesAt}
 use Rattle.words.specs.declared.arguments.Arguments.{Arguments}
 
 -- nothing is taken; 16 stands for a word with no characters
@@ -130,9 +130,9 @@ argumentIn space ends place =
     (bytesAt space (getD ends (place - 1) 0) (getD ends place 0 - getD ends (place - 1) 0))))
 
 -- an argument of one byte; 0 where it is none
-unfoldable pub byteOf : List ℕ → ℕ
-byteOf bytes = cond (eqb (length bytes) 1) (getD bytes 0 0) 0
+unfoldable pub argumentByte : List ℕ → ℕ
+argumentByte bytes = cond (eqb (length bytes) 1) (getD bytes 0 0) 0
 
-unfoldable pub numberOf : ℕ → List ℕ → ℕ
-numberOf v [] = v
-numberOf v (b ∷ bs) = numberOf (longerBy v b) bs
+unfoldable pub argumentNumber : ℕ → List ℕ → ℕ
+argumentNumber v [] = v
+argumentNumber v (b ∷ bs) = argumentNumber (longerBy v b) bs

@@ -7,7 +7,7 @@ use Prim.Native.String.{String}
 use mathlib.Core.List.{List, [], _∷_, map}
 use lib.Dec.{eqb, leb, ltb}
 use lib.ListN.{length, getD}
-use Rattle.words.specs.Arguments.{longerBy, argumentIn, numberOf}
+use Rattle.words.specs.Arguments.{longerBy, argumentIn, argumentNumber}
 
 -- a name as a number: the bytes of its letters, the first the most significant
 unfoldable pub nameOf : ℕ → String → ℕ
@@ -135,7 +135,7 @@ fitsOne argument kind =
     (cond
     (ltb 8 (length argument))
     false
-    (cond (eqb kind small) (ltb (numberOf 0 argument) 65536) (cond (eqb kind size) (leb (numberOf 0 argument) 4096) true)))))
+    (cond (eqb kind small) (ltb (argumentNumber 0 argument) 65536) (cond (eqb kind size) (leb (argumentNumber 0 argument) 4096) true)))))
 
 -- by a digit of the shape: 0 the arguments do not fit, 1 they do, 2 as those behind do
 unfoldable pub fitsAt : List ℕ → List ℕ → ℕ → ℕ → ℕ → ℕ

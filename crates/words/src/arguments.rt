@@ -1,7 +1,7 @@
 // The arguments of a line, character by character, and what they are.
-use fields::fields::bytes_at;
+use lent::part::bytes_at;
 ghost use mathlib.Core.Path.{_≡_};
-ghost use Rattle.words.specs.Arguments.{noneOf, letterIn, badOf, closedOf, openedOf, namedOf, dashedOf, digitOf, inWordOf, takenOf, keptOf, decodedIn, argumentIn, byteOf, longerBy, numberOf};
+ghost use Rattle.words.specs.Arguments.{noneOf, letterIn, badOf, closedOf, openedOf, namedOf, dashedOf, digitOf, inWordOf, takenOf, keptOf, decodedIn, argumentIn, argumentByte, longerBy, argumentNumber};
 
 // The most arguments that an operation has.
 pub(crate) const MOST: usize = 13;
@@ -228,7 +228,7 @@ pub fn argument(space: &[u8], ends: [usize; 14], place: usize) -> &[u8]
 
 // An argument of one byte; 0 where it is none.
 pub fn byte(space: &[u8], ends: [usize; 14], place: usize) -> u8
-    ensures { λ r. ⌜ r ≡ byteOf (argumentIn (now (space .entry)) ends place) ⌝ }
+    ensures { λ r. ⌜ r ≡ argumentByte (argumentIn (now (space .entry)) ends place) ⌝ }
 {
     let bytes = argument(space, ends, place);
     if bytes.len() != 1 {
@@ -239,13 +239,13 @@ pub fn byte(space: &[u8], ends: [usize; 14], place: usize) -> u8
 
 // An argument as a number, the most significant byte first; of its last 8 bytes.
 pub fn number(space: &[u8], ends: [usize; 14], place: usize) -> u64
-    ensures { λ r. ⌜ r ≡ numberOf 0 (argumentIn (now (space .entry)) ends place) ⌝ }
+    ensures { λ r. ⌜ r ≡ argumentNumber 0 (argumentIn (now (space .entry)) ends place) ⌝ }
 {
     number_of(argument(space, ends, place))
 }
 
 pub(crate) fn number_of(bytes: &[u8]) -> u64
-    ensures { λ r. ⌜ r ≡ numberOf 0 (now (bytes .entry)) ⌝ }
+    ensures { λ r. ⌜ r ≡ argumentNumber 0 (now (bytes .entry)) ⌝ }
 {
     let mut value: u64 = 0;
     for i in 0..bytes.len() {

@@ -3,7 +3,7 @@ use mathlib.Core.Path.{_≡_, sym, _∙_}
 use native.Mathlib.Omega.{arith}
 use lib.ListN.{length}
 use borrow.Author.Needs.{needs}
-use Rattle.listing_pieces.specs.Pieces.{linesIn}
+use Rattle.listing_pieces.specs.Pieces.{comingIn}
 use Rattle.listing_pieces.proofs.Whole.{answered-fewer}
 use Rattle.listing.proofs.list.Statement.{statement}
 use Rattle.listing.proofs.list.Tie as tie
@@ -12,7 +12,7 @@ abbrev Inv-loop : tie.InvT-loop
 Inv-loop input piece₀ place₀ piece place = length piece ≡ 65536
 
 abbrev μ-loop : tie.MeasureT-loop
-μ-loop input piece₀ place₀ piece place = length (linesIn input place)
+μ-loop input piece₀ place₀ piece place = length (comingIn input place)
 
 large-buffer-requires : tie.Need-large-buffer-requires Inv-loop μ-loop
 large-buffer-requires c κs = search needs

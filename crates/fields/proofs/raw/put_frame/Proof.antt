@@ -19,8 +19,8 @@ header-requires c κs = search needs
 cast-header : tie.Need-cast-header
 cast-header c = search needs
 
-copy-at-requires : tie.Need-copy-at-requires
-copy-at-requires c κs = search needs
+write-bytes-requires : tie.Need-write-bytes-requires
+write-bytes-requires c κs = search needs
 
 add-tail : tie.Need-add-tail
 add-tail c = search needs
@@ -37,7 +37,7 @@ returns c =
     let g = c .before .before .before .before .before .before .before .before .before .before .before .args in
     let n = length (g .body .now) in
     let H = headerOf (g .direction) (g .zone) (g .command) (g .answer) n in
-    rw (c .before .before .copy-at .ensures, c .before .before .before .before .before .before .before .put-header .ensures, c .before .before .before .before .header .ensures)
+    rw (c .before .before .write-bytes .ensures .1, c .before .before .before .before .before .before .before .put-header .ensures, c .before .before .before .before .header .ensures)
     (frame-done H (g .body .now) (g .tail .now) (header (g .direction)) (header-length (g .direction) (g .zone) (g .command) (g .answer) n) (search needs))
 
 pub put-frame-spec : {M : Type 1} → statement M
@@ -48,7 +48,7 @@ put-frame-spec =
     put-header-requires
     header-requires
     cast-header
-    copy-at-requires
+    write-bytes-requires
     add-tail
     slice-write-tail
     same-length

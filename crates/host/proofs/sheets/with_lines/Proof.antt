@@ -57,7 +57,7 @@ use Rattle.sheet.proofs.sheet.with_line as stp
 use Rattle.sheet.proofs.sheet.with_line.Symbol as stp-def
 use Rattle.sheet.proofs.sheet.with_line.Symbol.{name as #sheet·lines·with-line}
 use Rattle.sheet.proofs.sheet.with_line.Met as stp-thm
-use Rattle.host.proofs.sheets.with_lines.Key.{name as #host·list·with-lines}
+use Rattle.host.proofs.sheets.with_lines.Key.{name as #host·sheets·with-lines}
 use Rattle.host.proofs.sheets.with_lines as f
 use Rattle.host.proofs.sheets.with_lines.Statement as stated
 use Rattle.host.proofs.sheets.with_lines.Code as code
@@ -258,6 +258,6 @@ pub with-lines-spec : {M : Type 1} → stated.statement M
 unfolding code.routine tablesOf
 with-lines-spec 𝓤 H 𝓜 𝓖 𝓡 =
     entered 𝓤 H (tripleOf 𝓤 H (𝓖 .A) f.signature (f.spec 𝓤 H (𝓖 .A) (𝓜 .mem) (𝓡 .run)))
-    (tables 𝓤 H 𝓜 𝓡 code.env .C) (tables 𝓤 H 𝓜 𝓡 code.env .Λ) #host·list·with-lines code.function (code.unfolded 𝓤 H 𝓜 𝓡)
+    (tables 𝓤 H 𝓜 𝓡 code.env .C) (tables 𝓤 H 𝓜 𝓡 code.env .Λ) #host·sheets·with-lines code.function (code.unfolded 𝓤 H 𝓜 𝓡)
     (with-lines-meets 𝓤 H (𝓖 .A) (givenOf 𝓤 H 𝓜 𝓖) (𝓜 .mem) (𝓡 .run) (tablesOf 𝓤 H 𝓜 (tables 𝓤 H 𝓜 𝓡 code.env))
     (cited 𝓤 H (Stepped 𝓤 H (𝓖 .A) (𝓜 .mem) (𝓡 .run)) 𝓜 𝓡 code.env #sheet·lines·with-line stp-def.routine code.calls-sheet·lines·with-line (stp-thm.met 𝓤 H 𝓜 𝓖 𝓡)))

@@ -1,6 +1,6 @@
 -- `text::event::put_event` meets its contract.
 use mathlib.Core.Path.{sym}
-use Rattle.fields.specs.Fields.{bytesAt}
+use Rattle.lent.specs.Placed.{bytesAt}
 use Rattle.listing_text.specs.Letters.{letters}
 use Rattle.listing_text.specs.Number.{decimal}
 use Rattle.listing_text.specs.Listing.{textLine, eventText}

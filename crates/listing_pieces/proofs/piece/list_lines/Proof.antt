@@ -4,7 +4,7 @@ use Prim.Native.Nat.{_-_, _≤_, _<_}
 use native.Mathlib.Omega.{arith}
 use borrow.Author.Needs.{needs}
 use lib.ListN.{length}
-use Rattle.listing_pieces.specs.Pieces.{lineLimit, linesFrom}
+use Rattle.listing_pieces.specs.Pieces.{lineLimit, comingFrom}
 use Rattle.listing_pieces.proofs.Pieces.{filled-full, filled-end, fewer, Filling, begun, ended, more}
 use Rattle.listing_pieces.proofs.piece.list_lines.Statement.{statement}
 use Rattle.listing_pieces.proofs.piece.list_lines.Tie as tie
@@ -13,7 +13,7 @@ abbrev Inv-loop : tie.InvT-loop
 Inv-loop profile direction capture buf₀ at₀ next₀ buf at next = Filling profile direction capture buf₀ next₀ buf at next
 
 abbrev μ-loop : tie.MeasureT-loop
-μ-loop profile direction capture buf₀ at₀ next₀ buf at next = length (linesFrom profile direction capture next)
+μ-loop profile direction capture buf₀ at₀ next₀ buf at next = length (comingFrom profile direction capture next)
 
 loop-holds : tie.Need-loop-holds Inv-loop μ-loop
 loop-holds c =
@@ -34,7 +34,7 @@ returns c =
     let l = c .before .loop in
     let full : length (g .buf .now) - l .at < lineLimit = omega (arith, c .if1 .taken, l .inv .long) in
     ended (g .profile) (g .direction) (g .capture .now) (g .buf .now) (g .place) (l .buf) (l .at) (l .next) (l .inv)
-    (filled-full (length (g .buf .now) - l .at) (l .next) (linesFrom (g .profile) (g .direction) (g .capture .now) (l .next)) full)
+    (filled-full (length (g .buf .now) - l .at) (l .next) (comingFrom (g .profile) (g .direction) (g .capture .now) (l .next)) full)
 
 is-end-requires : tie.Need-is-end-requires Inv-loop μ-loop
 is-end-requires c κs = search needs

@@ -3,7 +3,7 @@ use mathlib.Core.Path.{refl, sym, _∙_}
 use native.Mathlib.Omega.{arith}
 use Rattle.frame.specs.Capture.{eventsFrom}
 use Rattle.frame.proofs.Leads.{leads, none-first}
-use Rattle.listing_pieces.specs.Pieces.{eventSteps}
+use Rattle.listing_pieces.specs.Pieces.{comingEvents}
 use Rattle.listing_pieces.proofs.Puts.{wider}
 use borrow.Author.Needs.{needs}
 use Rattle.listing_pieces.proofs.piece.put_from.Statement.{statement}
@@ -25,7 +25,7 @@ same-length : tie.Need-same-length
 same-length c = search needs
 
 returns : tie.Need-returns
-unfolding eventSteps
+unfolding comingEvents
 returns c =
     let g = c .before .before .before .before .before .before .before .before .before .args in
     let none = none-first (eventsFrom (g .direction) (g .capture .now) (g .from)) (sym (c .before .before .before .before .enum-told .given .1) ∙ c .before .before .before .before .before .before .next-event .ensures) in
@@ -49,7 +49,7 @@ same-length-2 : tie.Need-same-length-2
 same-length-2 c = search needs
 
 returns-2 : tie.Need-returns-2
-unfolding eventSteps
+unfolding comingEvents
 returns-2 c =
     let g = c .before .before .before .before .before .before .before .before .before .before .before .args in
     let told = c .before .before .before .before .before .before .found .given in

@@ -4,7 +4,7 @@ use mathlib.Core.List.{List, _++_}
 use Prim.Native.Nat.{ℕ, _+_, _-_, _<_}
 use native.Mathlib.Omega.{arith}
 use lib.ListN.{length, take, drop}
-use Rattle.fields.proofs.Tail.{tail-placed}
+use Rattle.lent.proofs.Tail.{tail-placed}
 use Rattle.listing_text.specs.Number.{decimal}
 use Rattle.listing_pieces.specs.Computed.{places, lastDigits}
 use Rattle.listing_pieces.proofs.Digits.{digits-count, decimal-is, decimal-long, places-most}

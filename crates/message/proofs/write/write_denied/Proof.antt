@@ -1,10 +1,9 @@
 -- `message::write::write_denied` meets its contract.
-use Rattle.message.specs.Write.{writeAnswered, writeLeft}
+use Rattle.lent.specs.Written.{writeAnswered, writeLeft}
 use mathlib.Core.Path.{_∙_}
 use borrow.Author.Tests.{le-leb, lt-leb}
 use native.Mathlib.Omega.{arith}
 use Prim.Native.Nat.{_≤_}
-use Rattle.message.proofs.Writes.{raw-said, raw-left}
 use borrow.Author.Needs.{needs}
 use Rattle.message.proofs.write.write_denied.Statement.{statement}
 use Rattle.message.proofs.write.write_denied.Tie as tie
@@ -32,7 +31,7 @@ returns-3 c =
     let low : 0x82 ≤ g .answer = omega arith in
     let high : g .answer ≤ 0x86 = omega arith in
     let raw = c .before .before .write-raw .ensures in
-    rw (le-leb _ _ low, le-leb _ _ high) (raw .0 ∙ raw-said _ _ _ _ _ _ _, raw .1 ∙ raw-left _ _ _ _ _ _ _)
+    rw (le-leb _ _ low, le-leb _ _ high) raw
 
 pub write-denied-spec : {M : Type 1} → statement M
 write-denied-spec = tie.close (tie.spec returns returns-2 write-raw-requires same-length returns-3)

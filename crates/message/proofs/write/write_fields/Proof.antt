@@ -1,7 +1,8 @@
 -- `message::write::write_fields` meets its contract.
 use Rattle.frame.specs.Frame.{frameOf}
 use mathlib.Core.Path.{sym, _∙_, ap}
-use Rattle.message.proofs.Writes.{raw-said-short, raw-left-short, fields-refused, fields-message}
+use Rattle.message.proofs.Writes.{fields-refused, fields-message}
+use Rattle.fields.proofs.Raws.{raw-short}
 use Rattle.message.specs.Write.{fieldsAnswered, fieldsLeft}
 use Rattle.message.specs.Computed.{readingWritten}
 use borrow.Author.Needs.{needs}
@@ -41,7 +42,7 @@ returns-2 c =
     let told = c .before .before .before .before .enum-told .given in
     let w = fields-message (g .profile) (g .direction) (g .buf .now) (g .at) (g .zone) (g .command) (g .answer) (g .body .now) (frameOf (g .direction) (g .zone) (g .command) (g .answer) (g .body .now)) _ (sym (c .before .before .before .before .before .before .read-message .ensures) ∙ told .1) in
     let raw = c .before .before .write-raw .ensures in
-    (raw .0 ∙ raw-said-short _ _ _ _ _ _ _ (w .2) ∙ sym (w .0), raw .1 ∙ raw-left-short _ _ _ _ _ _ _ (w .2) ∙ sym (w .1))
+    (raw .0 ∙ raw-short _ _ (g .body .now) _ (w .2) .0 ∙ sym (w .0), raw .1 ∙ raw-short _ _ (g .body .now) _ (w .2) .1 ∙ sym (w .1))
 
 pub write-fields-spec : {M : Type 1} → statement M
 write-fields-spec =

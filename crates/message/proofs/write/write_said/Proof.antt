@@ -2,7 +2,7 @@
 use Prim.Native.Nat.{ℕ}
 use borrow.Author.Tests.{not-true, not-false}
 use Rattle.frame.specs.Frame.{frameOf}
-use Rattle.judging.specs.Judge.{lengthOf}
+use Rattle.judging.specs.Judge.{hasLength}
 use Rattle.message.specs.Write.{saidData}
 use mathlib.Core.Path.{sym, _∙_, ap}
 use Rattle.message.proofs.Writes.{said-refused, said-length, said-form, said-good}
@@ -41,7 +41,7 @@ returns-2 c =
     let g = c .before .before .before .before .before .before .before .before .args in
     let told = c .before .before .before .before .judged .given in
     let legal = sym (c .before .before .before .before .before .before .judge-row .ensures) ∙ told .1 in
-    let size = ap (λ (n : ℕ). lengthOf (g .direction) (told .0 .0) n) (sym (c .before .before .size-of .ensures)) ∙ sym (c .before .length-fits .ensures) in
+    let size = ap (λ (n : ℕ). hasLength (g .direction) (told .0 .0) n) (sym (c .before .before .size-of .ensures)) ∙ sym (c .before .length-fits .ensures) in
     let w = said-length (g .profile) (g .direction) (g .buf .now) (g .at) (g .zone) (g .command) (g .content) (told .0 .0) legal (size ∙ not-true _ (c .if1 .taken)) in
     (sym (w .0), sym (w .1))
 
@@ -53,7 +53,7 @@ returns-3 c =
     let g = c .before .before .before .before .before .before .before .before .before .before .args in
     let told = c .before .before .before .before .before .before .judged .given in
     let legal = sym (c .before .before .before .before .before .before .before .before .judge-row .ensures) ∙ told .1 in
-    let size = ap (λ (n : ℕ). lengthOf (g .direction) (told .0 .0) n) (sym (c .before .before .before .before .size-of .ensures)) ∙ sym (c .before .before .before .length-fits .ensures) in
+    let size = ap (λ (n : ℕ). hasLength (g .direction) (told .0 .0) n) (sym (c .before .before .before .before .size-of .ensures)) ∙ sym (c .before .before .before .length-fits .ensures) in
     let w = said-form (g .profile) (g .direction) (g .buf .now) (g .at) (g .zone) (g .command) (g .content) (told .0 .0) legal (size ∙ not-false _ (c .before .before .if1 .left)) (sym (c .before .is-form .ensures) ∙ not-true _ (c .if2 .taken)) in
     (sym (w .0), sym (w .1))
 
@@ -71,7 +71,7 @@ returns-4 c =
     let g = c .before .before .before .before .before .before .before .before .before .before .before .before .before .before .before .args in
     let told = c .before .before .before .before .before .before .before .before .before .before .before .judged .given in
     let legal = sym (c .before .before .before .before .before .before .before .before .before .before .before .before .before .judge-row .ensures) ∙ told .1 in
-    let size = ap (λ (n : ℕ). lengthOf (g .direction) (told .0 .0) n) (sym (c .before .before .before .before .before .before .before .before .before .size-of .ensures)) ∙ sym (c .before .before .before .before .before .before .before .before .length-fits .ensures) in
+    let size = ap (λ (n : ℕ). hasLength (g .direction) (told .0 .0) n) (sym (c .before .before .before .before .before .before .before .before .before .size-of .ensures)) ∙ sym (c .before .before .before .before .before .before .before .before .length-fits .ensures) in
     let w = said-good (g .profile) (g .direction) (g .buf .now) (g .at) (g .zone) (g .command) (g .content) (told .0 .0) legal (size ∙ not-false _ (c .before .before .before .before .before .before .before .if1 .left)) (sym (c .before .before .before .before .before .before .is-form .ensures) ∙ not-false _ (c .before .before .before .before .before .if2 .left)) in
     let put = c .before .before .write-encoded .ensures in
     let encoded = c .before .before .before .encode .ensures in

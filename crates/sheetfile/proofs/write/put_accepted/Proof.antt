@@ -3,7 +3,7 @@ use mathlib.Core.Path.{_≡_, refl, ap, _∙_}
 use Prim.Native.Nat.{ℕ, _+_, _-_, _*_, _≤_, _<_}
 use native.Mathlib.Omega.{arith}
 use lib.ListN.{length}
-use Rattle.fields.proofs.Tail.{tail-placed}
+use Rattle.lent.proofs.Tail.{tail-placed}
 use Rattle.sheet.specs.Sheet.{firstLines}
 use Rattle.sheetfile.specs.File.{recordSize}
 use Rattle.sheetfile.specs.Computed.{zerosOf, sheetBytes}

@@ -3,7 +3,7 @@ use mathlib.Core.Path.{_≡_, ap, _∙_}
 use Prim.Native.Nat.{ℕ, _*_, _≤_}
 use lib.ListN.{length, take, replicate, length-replicate}
 use lib.Seq.{length-take-le}
-use Rattle.sheetfile.specs.Order.{inOrder}
+use Rattle.lists.specs.InOrder.{inOrder}
 use Rattle.sheetfile.specs.File.{recordSize}
 use Rattle.sheetfile.specs.Computed.{bytesOf}
 use Rattle.sheetfile.proofs.Filled.{filled-tail, in-order-length, bytes-six}

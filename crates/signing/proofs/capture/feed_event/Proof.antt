@@ -2,7 +2,7 @@
 use mathlib.Core.Path.{ap, _∙_}
 use mathlib.Core.List.{List}
 use Prim.Native.Nat.{ℕ}
-use Rattle.tracker.specs.Feed.{fedAll}
+use Rattle.tracker.specs.Feed.{answersFed}
 use Rattle.signing.specs.Capture.{broughtIn}
 use borrow.Author.Needs.{needs}
 use Rattle.signing.proofs.capture.feed_event.Statement.{statement}
@@ -30,18 +30,18 @@ returns : tie.Need-returns
 returns c =
     let g = c .before .before .before .before .before .args in
     rw (c .before .before .enum-told .given .1)
-    (c .feed-frame .ensures ∙ ap (λ (bytes : List ℕ). fedAll (g .tracker) (broughtIn bytes)) (c .before .bytes-at .ensures))
+    (c .feed-frame .ensures ∙ ap (λ (bytes : List ℕ). answersFed (g .tracker) (broughtIn bytes)) (c .before .bytes-at .ensures))
 
 returns-2 : tie.Need-returns-2
-unfolding fedAll
+unfolding answersFed
 returns-2 c = rw (c .enum-told2 .given .1)
 
 returns-3 : tie.Need-returns-3
-unfolding fedAll
+unfolding answersFed
 returns-3 c = rw (c .enum-told3 .given .1)
 
 returns-4 : tie.Need-returns-4
-unfolding fedAll
+unfolding answersFed
 returns-4 c = rw (c .enum-told4 .given .1)
 
 pub feed-event-spec : {M : Type 1} → statement M

@@ -5,7 +5,7 @@ use native.Mathlib.Omega.{arith}
 use lib.ListN.{length}
 use Rattle.frame.specs.Capture.{eventsFrom}
 use Rattle.frame.specs.declared.direction.Direction.the-variants.{Answer}
-use Rattle.tracker.specs.Feed.{fedAll}
+use Rattle.tracker.specs.Feed.{answersFed}
 use Rattle.signing.specs.Capture.{broughtAll, broughtBy}
 use Rattle.frame.proofs.Leads.{leads}
 use Rattle.signing.proofs.Captures.{feeds-on, feeds-end}
@@ -15,7 +15,7 @@ use Rattle.signing.proofs.capture.feed_events.Tie as tie
 
 abbrev Inv-loop : tie.InvT-loop
 Inv-loop capture next₀ at₀ next at =
-    (at ≤ length capture) × (fedAll next₀ (broughtBy capture) ≡ fedAll next (broughtAll capture (eventsFrom Answer capture at)))
+    (at ≤ length capture) × (answersFed next₀ (broughtBy capture) ≡ answersFed next (broughtAll capture (eventsFrom Answer capture at)))
 
 abbrev μ-loop : tie.MeasureT-loop
 μ-loop capture next₀ at₀ next at = length capture - at

@@ -1,5 +1,5 @@
 -- `signing::capture::feed_frame` meets its contract.
-use Rattle.tracker.specs.Feed.{fedAll}
+use Rattle.tracker.specs.Feed.{answersFed}
 use borrow.Author.Needs.{needs}
 use Rattle.signing.proofs.capture.feed_frame.Statement.{statement}
 use Rattle.signing.proofs.capture.feed_frame.Tie as tie
@@ -14,7 +14,7 @@ enum-told : tie.Need-enum-told
 enum-told c = search needs
 
 returns : tie.Need-returns
-unfolding fedAll
+unfolding answersFed
 returns c = rw (← c .before .before .frame-fields .ensures, c .enum-told .given .1)
 
 frame-data-requires : tie.Need-frame-data-requires
@@ -24,7 +24,7 @@ after-answer-requires : tie.Need-after-answer-requires
 after-answer-requires c κs = search needs
 
 returns-2 : tie.Need-returns-2
-unfolding fedAll
+unfolding answersFed
 returns-2 c = rw (← c .before .before .before .before .before .before .frame-fields .ensures, c .before .before .before .before .brought .given .1, ← c .before .before .frame-data .ensures, c .before .after-answer .ensures)
 
 pub feed-frame-spec : {M : Type 1} → statement M

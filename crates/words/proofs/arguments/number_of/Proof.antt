@@ -4,14 +4,14 @@ use Prim.Native.Nat.{_-_, _≤_}
 use lib.ListN.{drop}
 use Rattle.words.proofs.Laws.{number-more, number-end}
 use borrow.Author.Needs.{needs}
-use Rattle.words.specs.Arguments.{numberOf}
+use Rattle.words.specs.Arguments.{argumentNumber}
 use Rattle.words.proofs.Laws.{number-more, number-end}
 use Rattle.words.proofs.Laws.{number-more, number-end}
 use Rattle.words.proofs.arguments.number_of.Statement.{statement}
 use Rattle.words.proofs.arguments.number_of.Tie as tie
 
 abbrev Inv-loop : tie.InvT-loop
-Inv-loop bytes value₀ i₀ i-end value i = (i ≤ i-end) × (numberOf 0 bytes ≡ numberOf value (drop i bytes))
+Inv-loop bytes value₀ i₀ i-end value i = (i ≤ i-end) × (argumentNumber 0 bytes ≡ argumentNumber value (drop i bytes))
 
 abbrev μ-loop : tie.MeasureT-loop
 μ-loop bytes value₀ i₀ i-end value i = i-end - i

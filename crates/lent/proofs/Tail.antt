@@ -5,7 +5,7 @@ use Prim.Native.Nat.{ℕ, _-_}
 use native.Mathlib.Omega.{arith}
 use lib.ListN.{length, take, drop, length-drop, drop-of-length-le}
 use lib.Seq.{take-all, drop-drop}
-use Rattle.fields.specs.Raw.{placed}
+use Rattle.lent.specs.Placed.{placed}
 
 module _ (buf : List ℕ) (at : ℕ) where
   tail-whole : take (length buf - at) (drop at buf) ≡ drop at buf

@@ -3,17 +3,17 @@ use mathlib.Core.Path.{_≡_, refl, sym, _∙_}
 use mathlib.Core.Bool.{Bool, true, false, cond, _||_}
 use mathlib.Core.List.{List, [], _∷_, _++_}
 use Prim.Native.Nat.{ℕ}
-use Rattle.frame.specs.Refusal.{Line, ruled}
+use Rattle.refusals.specs.Rule.{Rule, ruled}
 
-abbrev pub refuses : List Line → Bool
+abbrev pub refuses : List Rule → Bool
 refuses [] = false
 refuses (l ∷ ls) = l .applies || refuses ls
 
-abbrev pub firstNumber : List Line → ℕ
+abbrev pub firstNumber : List Rule → ℕ
 firstNumber [] = 0
 firstNumber (l ∷ ls) = cond (l .applies) (l .number) (firstNumber ls)
 
-pub ruled-is : {A : Type 0} (ls : List Line) (refused : ℕ → A) (accepted : A) → ruled ls refused accepted ≡ cond (refuses ls) (refused (firstNumber ls)) accepted
+pub ruled-is : {A : Type 0} (ls : List Rule) (refused : ℕ → A) (accepted : A) → ruled ls refused accepted ≡ cond (refuses ls) (refused (firstNumber ls)) accepted
 ruled-is [] refused accepted = refl
 ruled-is {A} (l ∷ ls) refused accepted = go (l .applies) (ruled-is ls refused accepted)
   where
@@ -23,7 +23,7 @@ ruled-is {A} (l ∷ ls) refused accepted = go (l .applies) (ruled-is ls refused 
     go false rest = rest
 
 -- lines after lines
-pub ruled-append : {A : Type 0} (ls ms : List Line) (refused : ℕ → A) (accepted : A) → ruled (ls ++ ms) refused accepted ≡ ruled ls refused (ruled ms refused accepted)
+pub ruled-append : {A : Type 0} (ls ms : List Rule) (refused : ℕ → A) (accepted : A) → ruled (ls ++ ms) refused accepted ≡ ruled ls refused (ruled ms refused accepted)
 ruled-append [] ms refused accepted = refl
 ruled-append {A} (l ∷ ls) ms refused accepted = go (l .applies) (ruled-append ls ms refused accepted)
   where
@@ -33,7 +33,7 @@ ruled-append {A} (l ∷ ls) ms refused accepted = go (l .applies) (ruled-append 
     go false rest = rest
 
 -- what an answer says of its lines: one that is not the accepted one was refused, and one that is no refusal was accepted
-module _ {A : Type 0} (ls : List Line) (refused : ℕ → A) (accepted : A) where
+module _ {A : Type 0} (ls : List Rule) (refused : ℕ → A) (accepted : A) where
   pub was-refused : (x : A) → ruled ls refused accepted ≡ x → (accepted ≡ x → ⊥) → (refuses ls ≡ true) × (refused (firstNumber ls) ≡ x)
   was-refused x e differs = go (refuses ls) (sym (ruled-is ls refused accepted) ∙ e)
     where
@@ -60,19 +60,19 @@ or-false : (s t : Bool) → s || t ≡ false → (s ≡ false) × (t ≡ false)
 or-false true t e = (e, cc)
 or-false false t e = (refl, e)
 
-pub pass-first : (l : Line) (ls : List Line) → refuses (l ∷ ls) ≡ false → (l .applies ≡ false) × (refuses ls ≡ false)
+pub pass-first : (l : Rule) (ls : List Rule) → refuses (l ∷ ls) ≡ false → (l .applies ≡ false) × (refuses ls ≡ false)
 pass-first l ls e = or-false (l .applies) (refuses ls) e
 
-pub pass-both : (l : Line) (ls : List Line) → l .applies ≡ false → refuses ls ≡ false → refuses (l ∷ ls) ≡ false
+pub pass-both : (l : Rule) (ls : List Rule) → l .applies ≡ false → refuses ls ≡ false → refuses (l ∷ ls) ≡ false
 pass-both l ls e f = rw (e, f)
 
-pub pass-append : (ls ms : List Line) → refuses (ls ++ ms) ≡ false → (refuses ls ≡ false) × (refuses ms ≡ false)
+pub pass-append : (ls ms : List Rule) → refuses (ls ++ ms) ≡ false → (refuses ls ≡ false) × (refuses ms ≡ false)
 pass-append [] ms e = (refl, e)
 pass-append (l ∷ ls) ms e =
     let first = pass-first l (ls ++ ms) e in
     let rest = pass-append ls ms (first .1) in
     (pass-both l ls (first .0) (rest .0), rest .1)
 
-pub append-pass : (ls ms : List Line) → refuses ls ≡ false → refuses ms ≡ false → refuses (ls ++ ms) ≡ false
+pub append-pass : (ls ms : List Rule) → refuses ls ≡ false → refuses ms ≡ false → refuses (ls ++ ms) ≡ false
 append-pass [] ms e f = f
 append-pass (l ∷ ls) ms e f = let first = pass-first l ls e in pass-both l (ls ++ ms) (first .0) (append-pass ls ms (first .1) f)

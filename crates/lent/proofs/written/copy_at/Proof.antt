@@ -6,8 +6,8 @@ use native.Mathlib.Numerals.{add-one}
 use borrow.Author.Needs.{needs}
 use lib.ListN.{length, length-set}
 use lib.Seq.{paste, paste-zero, paste-suc}
-use Rattle.fields.proofs.raw.copy_at.Statement.{statement}
-use Rattle.fields.proofs.raw.copy_at.Tie as tie
+use Rattle.lent.proofs.written.copy_at.Statement.{statement}
+use Rattle.lent.proofs.written.copy_at.Tie as tie
 
 abbrev Inv-loop : tie.InvT-loop
 Inv-loop to₀ at from i₀ to i = (i ≤ length from) × (length to ≡ length to₀) × (to ≡ paste to₀ at from i)

@@ -5,9 +5,9 @@ use native.Mathlib.Omega.{arith}
 use borrow.Author.Tests.{lt-leb, le-leb}
 use borrow.Author.Needs.{needs}
 use lib.ListN.{length}
-use Rattle.fields.specs.Fields.{bytesAt}
-use Rattle.fields.proofs.fields.bytes_at.Statement.{statement}
-use Rattle.fields.proofs.fields.bytes_at.Tie as tie
+use Rattle.lent.specs.Placed.{bytesAt}
+use Rattle.lent.proofs.part.bytes_at.Statement.{statement}
+use Rattle.lent.proofs.part.bytes_at.Tie as tie
 
 slice-aggregate-result : tie.Need-slice-aggregate-result
 slice-aggregate-result c = search needs
@@ -16,7 +16,7 @@ returns : tie.Need-returns
 unfolding bytesAt
 returns c =
     let g = c .before .before .args in
-    let over : length (g .capture .now) < g .at + g .length = search needs in
+    let over : length (g .bytes .now) < g .at + g .length = search needs in
     rw (lt-leb _ _ over)
 
 sub-if2 : tie.Need-sub-if2
@@ -29,7 +29,7 @@ returns-2 : tie.Need-returns-2
 unfolding bytesAt
 returns-2 c =
     let g = c .before .before .before .args in
-    let over : length (g .capture .now) < g .at + g .length = search needs in
+    let over : length (g .bytes .now) < g .at + g .length = search needs in
     rw (lt-leb _ _ over)
 
 add-result : tie.Need-add-result
@@ -48,7 +48,7 @@ returns-3 : tie.Need-returns-3
 unfolding bytesAt
 returns-3 c =
     let g = c .before .before .before .args in
-    let within : g .at + g .length ≤ length (g .capture .now) = search needs in
+    let within : g .at + g .length ≤ length (g .bytes .now) = search needs in
     let count : g .at + g .length - g .at ≡ g .length = omega arith in
     rw (le-leb _ _ within, count)
 

@@ -1,27 +1,16 @@
 -- Document 01, 'Which language form to use': "Where an answer is an enum, a definition gives this paper's number and values for
 -- each of its cases." 'Refusal numbers': "A refusal returns its number and zero for every other field". 0 stands for accepted.
 use Prim.Native.Nat.{ℕ}
 use Rattle.frame.specs.declared.direction.Named.{Named}
 use Rattle.frame.specs.declared.direction.Named.the-variants as named
-use Rattle.fields.specs.declared.raw.Written.{Written}
-use Rattle.fields.specs.declared.raw.Written.the-variants as written
 use Rattle.frame.specs.declared.capture.Totals.{Totals}
 use Rattle.frame.specs.declared.capture.Counted.{Counted}
 use Rattle.frame.specs.declared.capture.Counted.the-variants as counted
 
 -- a letter
 abbrev pub letterNumber : Named → ℕ
 letterNumber (named.Direction dir) = 0
 letterNumber (named.Refused n) = n
-
--- a write: its number, and how many bytes it wrote
-abbrev pub writtenNumber : Written → ℕ
-writtenNumber (written.Bytes count) = 0
-writtenNumber (written.Refused n) = n
-
-abbrev pub writtenCount : Written → ℕ
-writtenCount (written.Bytes count) = count
-writtenCount (written.Refused n) = 0
 
 -- a capture: its number, and its totals
 abbrev pub countedNumber : Counted → ℕ

@@ -5,15 +5,15 @@ use borrow.Author.Tests.{lt-leb, le-leb}
 use borrow.Author.Needs.{needs}
 use lib.ListN.{length, drop, length-drop}
 use lib.Seq.{take-all}
-use Rattle.fields.specs.Fields.{lastOf}
-use Rattle.fields.proofs.fields.last_bytes.Statement.{statement}
-use Rattle.fields.proofs.fields.last_bytes.Tie as tie
+use Rattle.lent.specs.Placed.{lastBytes}
+use Rattle.lent.proofs.part.last_bytes.Statement.{statement}
+use Rattle.lent.proofs.part.last_bytes.Tie as tie
 
 slice-aggregate-result : tie.Need-slice-aggregate-result
 slice-aggregate-result c = search needs
 
 returns : tie.Need-returns
-unfolding lastOf
+unfolding lastBytes
 returns c = search (needs, lt-leb)
 
 sub-result : tie.Need-sub-result
@@ -29,7 +29,7 @@ part-result-end : tie.Need-part-result-end
 part-result-end c = search needs
 
 returns-2 : tie.Need-returns-2
-unfolding lastOf
+unfolding lastBytes
 returns-2 c =
     let g = c .before .before .args in
     let within : g .count ≤ length (g .kept .now) = search needs in
