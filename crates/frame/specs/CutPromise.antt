@@ -11,8 +11,7 @@ use Rattle.frame.specs.declared.reader.Reader.{Reader}
 use Rattle.frame.specs.declared.part.Part.{Part}
 
 abbrev pub joined : List (List ℕ) → List ℕ
-joined [] = []
-joined (p ∷ ps) = p ++ joined ps
+joined parts = inOrder (λ (part : List ℕ). part) parts
 
 abbrev pub answersInParts : Reader → List (List ℕ) → List ByteAnswer
 answersInParts r [] = []
