@@ -36,7 +36,7 @@ settles (answer.Frame n) = replicate n Frame
 settles (answer.Broken n) = replicate n Broken
 
 abbrev pub settled : List ByteAnswer → List Kind
-settled as = inOrder settles as
+settled told = inOrder settles told
 
 -- the label of each byte of a capture; "Bytes of an unfinished frame are pending."
 unfoldable pub labels : Direction → List ℕ → List Kind

@@ -10,17 +10,18 @@ use Rattle.frame.specs.Reader.{takenBy}
 use Rattle.frame.specs.declared.direction.Direction.the-variants.{Command}
 use Rattle.frame.proofs.Taken.{Stands, fills, taken-outside}
 use Rattle.unit.specs.StoppedPromise.{StoppedPromise}
+use Rattle.streams.specs.Stream.{readerBy}
 
 -- bytes behind a 21 that do not pass the end place are all taken
 all-taken : (xs : List ℕ) → Stands Command (opens ∷ xs) → takenBy Command [] (opens ∷ xs) ≡ opens ∷ xs
-unfolding takenBy
+unfolding readerBy
 all-taken xs s =
     ap (λ (l : List ℕ). takenBy Command l xs) (taken-outside Command [] opens refl .1)
     ∙ ap (λ (l : List ℕ). takenBy Command (opens ∷ []) l) (sym (append-nil xs))
     ∙ fills Command (opens ∷ []) xs [] (omega arith) s .1
 
 pub stopped-promise : StoppedPromise
-unfolding frameOf takenBy
+unfolding frameOf readerBy
 stopped-promise = record { anywhere = λ profile s. anywhere }
   where
     anywhere : (zone command : ℕ) (body : List ℕ) (n : ℕ) → n ≤ header Command + length body
