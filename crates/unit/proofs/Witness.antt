@@ -26,6 +26,7 @@ use Rattle.sheet.specs.declared.line.Line.{Line}
 use Rattle.sheet.specs.declared.check.Verdict.the-variants.{Accepted}
 use Rattle.unit.specs.Unit.{Setting, value, input, current, sameSetting, Unit, Holds, frameDone, after}
 use Rattle.unit.specs.Legal.{Legal, RowIn}
+use Rattle.unit.specs.SettingsPromise.{SomeLegalPromise}
 use Rattle.unit.specs.Sending.{settingOf, NotOn, sending, sendings}
 use Rattle.unit.specs.UnitTablePromise.{zeroSettings}
 use Rattle.unit.specs.Demand3.{stopped, moment, Promised}
@@ -55,6 +56,9 @@ zeros-legal profile = record {
   where
     fits : (z c : ℕ) (row : Row) → RowIn profile z c row → zeroFits row ≡ true
     fits z c row there = row-passes zeroFits zero-fits profile c row (row-there profile z c row there .0)
+
+pub some-legal-promise : (profile : Profile) → SomeLegalPromise profile
+some-legal-promise profile = record { settings = zeroSettings; legal = zeros-legal profile }
 
 abbrev line : ℕ → ℕ → ℕ → Line
 line zone command v = record { zone = zone; command = command; value = v }
