@@ -54,7 +54,7 @@ use Rattle.tracker.proofs.feed.after_answer as g
 use Rattle.tracker.proofs.feed.after_answer.Symbol as g-def
 use Rattle.tracker.proofs.feed.after_answer.Symbol.{name as #tracker·feed·after-answer}
 use Rattle.tracker.proofs.feed.after_answer.Met as g-thm
-use Rattle.host.proofs.trackers.feed.Key.{name as #host·track·feed}
+use Rattle.host.proofs.trackers.feed.Key.{name as #host·trackers·feed}
 use Rattle.host.proofs.trackers.feed as f
 use Rattle.host.proofs.trackers.feed.Statement as stated
 use Rattle.host.proofs.trackers.feed.Code as code
@@ -146,6 +146,6 @@ pub feed-spec : {M : Type 1} → stated.statement M
 unfolding code.routine tablesOf
 feed-spec 𝓤 H 𝓜 𝓖 𝓡 =
     entered 𝓤 H (tripleOf 𝓤 H (𝓖 .A) f.signature (f.spec 𝓤 H (𝓖 .A) (𝓜 .mem) (𝓡 .run)))
-    (tables 𝓤 H 𝓜 𝓡 code.env .C) (tables 𝓤 H 𝓜 𝓡 code.env .Λ) #host·track·feed code.function (code.unfolded 𝓤 H 𝓜 𝓡)
+    (tables 𝓤 H 𝓜 𝓡 code.env .C) (tables 𝓤 H 𝓜 𝓡 code.env .Λ) #host·trackers·feed code.function (code.unfolded 𝓤 H 𝓜 𝓡)
     (meets 𝓤 H (𝓖 .A) (givenOf 𝓤 H 𝓜 𝓖) (𝓜 .mem) (𝓡 .run) (tablesOf 𝓤 H 𝓜 (tables 𝓤 H 𝓜 𝓡 code.env))
     (cited 𝓤 H (Called 𝓤 H (𝓖 .A) (𝓜 .mem) (𝓡 .run)) 𝓜 𝓡 code.env #tracker·feed·after-answer g-def.routine code.calls-tracker·feed·after-answer (g-thm.met 𝓤 H 𝓜 𝓖 𝓡)))

@@ -53,7 +53,7 @@ use Rattle.signing.proofs.capture.after_capture as g
 use Rattle.signing.proofs.capture.after_capture.Symbol as g-def
 use Rattle.signing.proofs.capture.after_capture.Symbol.{name as #signing·capture·after-capture}
 use Rattle.signing.proofs.capture.after_capture.Met as g-thm
-use Rattle.host.proofs.trackers.feed_capture.Key.{name as #host·track·feed-capture}
+use Rattle.host.proofs.trackers.feed_capture.Key.{name as #host·trackers·feed-capture}
 use Rattle.host.proofs.trackers.feed_capture as f
 use Rattle.host.proofs.trackers.feed_capture.Statement as stated
 use Rattle.host.proofs.trackers.feed_capture.Code as code
@@ -145,6 +145,6 @@ pub feed-capture-spec : {M : Type 1} → stated.statement M
 unfolding code.routine tablesOf
 feed-capture-spec 𝓤 H 𝓜 𝓖 𝓡 =
     entered 𝓤 H (tripleOf 𝓤 H (𝓖 .A) f.signature (f.spec 𝓤 H (𝓖 .A) (𝓜 .mem) (𝓡 .run)))
-    (tables 𝓤 H 𝓜 𝓡 code.env .C) (tables 𝓤 H 𝓜 𝓡 code.env .Λ) #host·track·feed-capture code.function (code.unfolded 𝓤 H 𝓜 𝓡)
+    (tables 𝓤 H 𝓜 𝓡 code.env .C) (tables 𝓤 H 𝓜 𝓡 code.env .Λ) #host·trackers·feed-capture code.function (code.unfolded 𝓤 H 𝓜 𝓡)
     (meets 𝓤 H (𝓖 .A) (givenOf 𝓤 H 𝓜 𝓖) (𝓜 .mem) (𝓡 .run) (tablesOf 𝓤 H 𝓜 (tables 𝓤 H 𝓜 𝓡 code.env))
     (cited 𝓤 H (Called 𝓤 H (𝓖 .A) (𝓜 .mem) (𝓡 .run)) 𝓜 𝓡 code.env #signing·capture·after-capture g-def.routine code.calls-signing·capture·after-capture (g-thm.met 𝓤 H 𝓜 𝓖 𝓡)))
