@@ -12,9 +12,6 @@ use Rattle.lists.specs.Each.{Each}
 use Rattle.lists.proofs.Each.{each-map}
 use Rattle.row.specs.declared.profile.Profile.{Profile}
 use Rattle.row.specs.declared.table.Row.{Row}
-use Rattle.judging.specs.Judge.{rowJudged}
-use Rattle.judging.specs.declared.judge.Judged.{Judged}
-use Rattle.judging.specs.declared.judge.Judged.the-variants as judged
 use Rattle.sheet.specs.Sheet.{sheetLimit, linesOf}
 use Rattle.sheet.specs.Check.{sheetVerdict}
 use Rattle.sheet.specs.SheetPromise.{AllSound}
@@ -26,7 +23,7 @@ use Rattle.sheet.proofs.Faults.{first-many}
 use Rattle.sheet.proofs.Sheets.{sheet-promise}
 use Rattle.sheet.proofs.Repeats.{here}
 use Rattle.tracker.specs.CellPromise.{HasCell}
-use Rattle.tracker.specs.Tracker.{freshTracker, keptAt, keptIn}
+use Rattle.tracker.specs.Tracker.{freshTracker, keptIn}
 use Rattle.tracker.specs.Feed.{BroughtAnswer, answersFed}
 use Rattle.signing.specs.Sign.{holdsIn, holds, allHold, yesOrNo, signedBy}
 use Rattle.tracker.specs.HistoryPromise.{IsStatus, Last, HistoryPromise}
@@ -35,7 +32,8 @@ use Rattle.tracker.specs.declared.tracker.Tracker.{Tracker}
 use Rattle.tracker.specs.declared.tracker.Kept.{Kept}
 use Rattle.tracker.specs.declared.tracker.Kept.the-variants as kept
 use Rattle.signing.specs.declared.sign.Signed.the-variants.{Yes, No}
-use Rattle.tracker.proofs.Cells.{legal-cell}
+use Rattle.tracker.proofs.Cells.{cell-or-none, legal-cell}
+use Rattle.tracker.proofs.Keeps.{none-kept}
 use Rattle.tracker.proofs.History.{all-profile, history-promise}
 
 -- an accepted sheet has no more lines than there is room for
@@ -120,18 +118,11 @@ module _ (profile : Profile) (fs : List BroughtAnswer) where
 
   -- what has no cell is not known
   known-cell : (zone command b : ℕ) → keptIn t zone command ≡ kept.Value b → (row : Row) × HasCell profile zone command row
-  unfolding keptIn
-  known-cell zone command b e =
-      go (rowJudged profile zone command) refl (ap (λ (p : Profile). keptAt t zone (rowJudged p zone command)) (sym (all-profile profile fs)) ∙ e)
+  known-cell zone command b e = go (cell-or-none profile zone command)
     where
-      half : (row : Row) (p : Bool) → row .pair ≡ p → rowJudged profile zone command ≡ judged.Legal row → keptAt t zone (judged.Legal row) ≡ kept.Value b
-          → (row : Row) × HasCell profile zone command row
-      half row true p f g = absurd (no-cell-not b (sym (rw p) ∙ g))
-      half row false p f g = (row, (f, p))
-
-      go : (j : Judged) → rowJudged profile zone command ≡ j → keptAt t zone j ≡ kept.Value b → (row : Row) × HasCell profile zone command row
-      go (judged.Legal row) f g = half row (row .pair) refl f g
-      go (judged.Refused n) f g = absurd (no-cell-not b g)
+      go : ((row : Row) × HasCell profile zone command row) ⊎ ((row : Row) → HasCell profile zone command row → ⊥) → (row : Row) × HasCell profile zone command row
+      go (inl h) = h
+      go (inr none) = absurd (no-cell-not b (sym (none-kept t zone command (rw (all-profile profile fs) none)) ∙ e))
 
   known-last : (zone command b : ℕ) → keptIn t zone command ≡ kept.Value b → Last profile zone command fs b
   known-last zone command b e =

@@ -6,12 +6,15 @@ use borrow.Author.Tests.{eq-eqb, ne-eqb}
 use lib.ListN.{getD}
 use Rattle.row.specs.declared.profile.Profile.{Profile}
 use Rattle.row.specs.declared.table.Row.{Row}
-use Rattle.judging.specs.Judge.{isSetting}
+use Rattle.judging.specs.Judge.{isSetting, rowJudged}
+use Rattle.judging.specs.declared.judge.Judged.{Judged}
+use Rattle.judging.specs.declared.judge.Judged.the-variants as judged
 use Rattle.sheet.specs.Line.{isSheetValue}
 use Rattle.tracker.specs.Cell.{cellOf}
-use Rattle.tracker.specs.Tracker.{knownState, keptIn}
+use Rattle.tracker.specs.Tracker.{knownState, keptAt, keptIn}
 use Rattle.tracker.specs.CellPromise.{HasCell, CellPromise, KeptPromise}
 use Rattle.tracker.specs.declared.tracker.Tracker.{Tracker}
+use Rattle.tracker.specs.declared.tracker.Kept.the-variants.{NoCell}
 use Rattle.tracker.proofs.Cells.{within, same-cell}
 
 pub cell-promise : (profile : Profile) (zone command : ℕ) → CellPromise profile zone command
@@ -36,3 +39,16 @@ kept-promise t zone command row has = record {
   where
     set : {x : Bool} → row .sheet ≡ true → isSheetValue row (getD (t .values) (cellOf row zone) 0) ≡ x → isSetting row (getD (t .values) (cellOf row zone) 0) ≡ x
     set sheet e = sym (ap (λ (y : Bool). y && isSetting row (getD (t .values) (cellOf row zone) 0)) sheet) ∙ e
+
+-- what has no cell is kept nowhere
+pub none-kept : (t : Tracker) (zone command : ℕ) → ((row : Row) → HasCell (t .profile) zone command row → ⊥) → keptIn t zone command ≡ NoCell
+unfolding keptIn
+none-kept t zone command none = go (rowJudged (t .profile) zone command) refl
+  where
+    half : (row : Row) (p : Bool) → row .pair ≡ p → rowJudged (t .profile) zone command ≡ judged.Legal row → keptAt t zone (judged.Legal row) ≡ NoCell
+    half row true p e = rw p
+    half row false p e = absurd (none row (e, p))
+
+    go : (j : Judged) → rowJudged (t .profile) zone command ≡ j → keptAt t zone j ≡ NoCell
+    go (judged.Legal row) e = half row (row .pair) refl e
+    go (judged.Refused n) e = refl
