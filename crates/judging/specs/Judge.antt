@@ -80,6 +80,7 @@ wrongValue dir row body = rule 4 (not (hasValue dir row body))
 -- the row of a command; where there is none, line 2 has refused it
 abbrev pub blank : Row
 blank = record {
+  place = 0;
   profile = 0;
   code = 0;
   zones = 0;

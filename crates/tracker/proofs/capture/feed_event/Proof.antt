@@ -1,12 +1,12 @@
--- `signing::capture::feed_event` meets its contract.
+-- `tracker::capture::feed_event` meets its contract.
 use mathlib.Core.Path.{ap, _∙_}
 use mathlib.Core.List.{List}
 use Prim.Native.Nat.{ℕ}
 use Rattle.tracker.specs.Feed.{answersFed}
-use Rattle.signing.specs.Capture.{broughtIn}
+use Rattle.tracker.specs.Capture.{broughtIn}
 use borrow.Author.Needs.{needs}
-use Rattle.signing.proofs.capture.feed_event.Statement.{statement}
-use Rattle.signing.proofs.capture.feed_event.Tie as tie
+use Rattle.tracker.proofs.capture.feed_event.Statement.{statement}
+use Rattle.tracker.proofs.capture.feed_event.Tie as tie
 
 enum-told : tie.Need-enum-told
 enum-told c = search needs

@@ -1,11 +1,11 @@
--- `row::table::line_at` meets its contract.
+-- `row::table::numbers_at` meets its contract.
 use mathlib.Core.Path.{_≡_}
 use Prim.Native.Nat.{ℕ, _+_, _≤_, _<_}
 use native.Mathlib.Omega.{arith}
 use borrow.Author.Needs.{needs}
 use Rattle.row.specs.Table.{table}
-use Rattle.row.proofs.table.line_at.Statement.{statement}
-use Rattle.row.proofs.table.line_at.Tie as tie
+use Rattle.row.proofs.table.numbers_at.Statement.{statement}
+use Rattle.row.proofs.table.numbers_at.Tie as tie
 
 -- a place that is not below one and not it is above it
 above : (k p : ℕ) → k ≤ p → (p ≡ k → ⊥) → k + 1 ≤ p
@@ -151,6 +151,6 @@ returns-19 c =
     let last : p ≡ 18 = omega (arith, low, high) in
     rw last
 
-pub line-at-spec : {M : Type 1} → statement M
-line-at-spec =
+pub numbers-at-spec : {M : Type 1} → statement M
+numbers-at-spec =
     tie.close (tie.spec array-copy-out-result array-copy-out-result-2 array-copy-out-result-3 array-copy-out-result-4 array-copy-out-result-5 array-copy-out-result-6 array-copy-out-result-7 array-copy-out-result-8 array-copy-out-result-9 array-copy-out-result-10 array-copy-out-result-11 array-copy-out-result-12 array-copy-out-result-13 array-copy-out-result-14 array-copy-out-result-15 array-copy-out-result-16 array-copy-out-result-17 array-copy-out-result-18 array-copy-out-result-19 returns returns-2 returns-3 returns-4 returns-5 returns-6 returns-7 returns-8 returns-9 returns-10 returns-11 returns-12 returns-13 returns-14 returns-15 returns-16 returns-17 returns-18 returns-19)

@@ -1,21 +1,22 @@
--- `signing::capture::feed_events` meets its contract.
+-- `tracker::capture::feed_events` meets its contract.
 use mathlib.Core.Path.{_≡_, sym, _∙_}
 use Prim.Native.Nat.{_-_, _≤_}
 use native.Mathlib.Omega.{arith}
 use lib.ListN.{length}
+use Rattle.lists.specs.InOrder.{inOrder}
 use Rattle.frame.specs.Capture.{eventsFrom}
 use Rattle.frame.specs.declared.direction.Direction.the-variants.{Answer}
 use Rattle.tracker.specs.Feed.{answersFed}
-use Rattle.signing.specs.Capture.{broughtAll, broughtBy}
+use Rattle.tracker.specs.Capture.{broughtAt, broughtBy}
 use Rattle.frame.proofs.Leads.{leads}
-use Rattle.signing.proofs.Captures.{feeds-on, feeds-end}
+use Rattle.tracker.proofs.Captures.{feeds-on, feeds-end}
 use borrow.Author.Needs.{needs}
-use Rattle.signing.proofs.capture.feed_events.Statement.{statement}
-use Rattle.signing.proofs.capture.feed_events.Tie as tie
+use Rattle.tracker.proofs.capture.feed_events.Statement.{statement}
+use Rattle.tracker.proofs.capture.feed_events.Tie as tie
 
 abbrev Inv-loop : tie.InvT-loop
 Inv-loop capture next₀ at₀ next at =
-    (at ≤ length capture) × (answersFed next₀ (broughtBy capture) ≡ answersFed next (broughtAll capture (eventsFrom Answer capture at)))
+    (at ≤ length capture) × (answersFed next₀ (broughtBy capture) ≡ answersFed next (inOrder (broughtAt capture) (eventsFrom Answer capture at)))
 
 abbrev μ-loop : tie.MeasureT-loop
 μ-loop capture next₀ at₀ next at = length capture - at

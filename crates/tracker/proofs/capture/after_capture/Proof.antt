@@ -1,10 +1,10 @@
--- `signing::capture::after_capture` meets its contract.
+-- `tracker::capture::after_capture` meets its contract.
 use borrow.Author.Tests.{lt-ltb, le-ltb}
 use lib.ListN.{length}
 use Rattle.frame.specs.Capture.{captureLimit}
 use borrow.Author.Needs.{needs}
-use Rattle.signing.proofs.capture.after_capture.Statement.{statement}
-use Rattle.signing.proofs.capture.after_capture.Tie as tie
+use Rattle.tracker.proofs.capture.after_capture.Statement.{statement}
+use Rattle.tracker.proofs.capture.after_capture.Tie as tie
 
 returns : tie.Need-returns
 returns c = search (needs, lt-ltb)

@@ -1,8 +1,8 @@
--- `signing::capture::feed_frame` meets its contract.
+-- `tracker::capture::feed_frame` meets its contract.
 use Rattle.tracker.specs.Feed.{answersFed}
 use borrow.Author.Needs.{needs}
-use Rattle.signing.proofs.capture.feed_frame.Statement.{statement}
-use Rattle.signing.proofs.capture.feed_frame.Tie as tie
+use Rattle.tracker.proofs.capture.feed_frame.Statement.{statement}
+use Rattle.tracker.proofs.capture.feed_frame.Tie as tie
 
 frame-fields-requires : tie.Need-frame-fields-requires
 frame-fields-requires c κs = search needs
