@@ -31,12 +31,12 @@ use Rattle.row.specs.declared.table.Found.the-variants as found
 use Rattle.judging.specs.Judge.{isMissing, rowIn, profileZone, noRow, rowZone, wrongLength, wrongValue, rowRules, judgeRules}
 use Rattle.message.specs.Content as content
 use Rattle.message.specs.Message.{isDenial, wrongCode, said, denial, readRules, messageOf, readOf, deniedData, fromReading, frameRead}
-use Rattle.message.specs.Write.{saidRules, saidData, notDenied, messageDirection, writeRules, messageFrame, messageAnswered, messageLeft}
+use Rattle.message.specs.Write.{saidRules, saidData, notDenied, messageDirection, writeRules, messageFrame}
 use Rattle.lent.specs.Written.{writeAnswered, writeLeft}
 use Rattle.lent.proofs.Writes.{write-promise, write-passed, write-fits}
 use Rattle.message.specs.Numbers.{Paper, messagePaper}
 use Rattle.message.specs.MessageRefusalPromise.{codeOn}
-use Rattle.message.specs.MessagePromise.{ReadsAs, MessagePromise}
+use Rattle.message.specs.MessagePromise.{ReadsAs, ReadsBack, MessagePromise}
 use Rattle.message.specs.declared.content.Content.{Content}
 use Rattle.message.specs.declared.content.Content.the-variants.{Request, Up, Down, On, Off, Toggle, LevellerOff, Number, Input}
 use Rattle.message.specs.declared.content.Encoded.{Encoded}
@@ -161,44 +161,54 @@ module _ (profile : Profile) where
       frame-reads profile Answer (d .zone) (d .command) (d .answer) body
       ∙ ap fromReading (read-passed profile Answer (d .zone) (d .command) (d .answer) body (rw (p .0, or-true) (p .1)) ∙ ap reading.Message is)
 
-  loads : (m : Message) (body : List ℕ) → deniedData m (dataOf (messageDirection m) (messageFrame profile m body)) ≡ deniedData m body
-  loads (message.Command s) body = refl
-  loads (message.Status s) body = refl
-  loads (message.Denied d) body = frame-promise .brought Answer (d .zone) (d .command) (d .answer) body .load
+-- the frame of fields and data, written where the rules let it, reads back
+module _ (profile : Profile) (dir : Direction) (rules : List Rule) (buf : List ℕ) (at zone command ac : ℕ) (given : List ℕ) (m : Message) (body : List ℕ)
+    (reads-so : refuses rules ≡ false → ReadsAs profile dir (frameOf dir zone command ac given) m body) where
+  abbrev sent : List ℕ
+  sent = frameOf dir zone command ac given
 
-  -- the frame of a message stands in the buffer as a frame
-  stands : (m : Message) (body buf : List ℕ) (at : ℕ) → at + length (messageFrame profile m body) ≤ length buf
-      → (firstOf (eventsFrom (messageDirection m) (placed buf at (messageFrame profile m body)) at) ≡ next.Event (event at (length (messageFrame profile m body)) kind.Frame))
-      × (bytesAt (placed buf at (messageFrame profile m body)) at (length (messageFrame profile m body)) ≡ messageFrame profile m body)
-  stands (message.Command s) body buf at room =
-      let d = saidData profile (s .command) (s .content) in
-      (placed-found Command buf at (s .zone) (s .command) 0 d room, placed-bytes Command buf at (s .zone) (s .command) 0 d room)
-  stands (message.Status s) body buf at room =
-      let d = saidData profile (s .command) (s .content) in
-      (placed-found Answer buf at (s .zone) (s .command) 0 d room, placed-bytes Answer buf at (s .zone) (s .command) 0 d room)
-  stands (message.Denied d) body buf at room =
-      (placed-found Answer buf at (d .zone) (d .command) (d .answer) body room, placed-bytes Answer buf at (d .zone) (d .command) (d .answer) body room)
+  module _ (n : ℕ) (e : writeAnswered rules buf at sent ≡ written.Bytes n) where
+    put-there : (n ≡ length sent) × (at + length sent ≤ length buf) × (writeLeft rules buf at sent ≡ placed buf at sent)
+    put-there = let w = write-promise rules buf at sent .there n e in (w .0, rw (← w .0) (w .1), w .2)
 
-  module _ (buf : List ℕ) (at : ℕ) (m : Message) (body : List ℕ) (n : ℕ) (e : messageAnswered profile buf at m body ≡ written.Bytes n) where
-    abbrev bytes : List ℕ
-    bytes = messageFrame profile m body
+    found-again : firstOf (eventsFrom dir (writeLeft rules buf at sent) at) ≡ next.Event (event at n kind.Frame)
+    found-again = rw (put-there .2, put-there .0) (placed-found dir buf at zone command ac given (put-there .1))
 
-    put-there : (n ≡ length bytes) × (at + length bytes ≤ length buf) × (messageLeft profile buf at m body ≡ placed buf at bytes)
-    unfolding messageAnswered messageLeft
-    put-there = let w = write-promise (writeRules profile m body) buf at bytes .there n e in (w .0, rw (← w .0) (w .1), w .2)
-
-    passed : refuses (writeRules profile m body) ≡ false
-    unfolding messageAnswered
-    passed = write-passed (writeRules profile m body) buf at bytes n e
-
-    found-again : firstOf (eventsFrom (messageDirection m) (messageLeft profile buf at m body) at) ≡ next.Event (event at n kind.Frame)
-    found-again = rw (put-there .2, put-there .0) (stands m body buf at (put-there .1) .0)
-
-    reads-again : ReadsAs profile (messageDirection m) (bytesAt (messageLeft profile buf at m body) at n) m body
+    reads-again : ReadsAs profile dir (bytesAt (writeLeft rules buf at sent) at n) m body
     reads-again =
-        subst (λ (l : List ℕ). ReadsAs profile (messageDirection m) l m body)
-        (sym (ap (λ (l : List ℕ). bytesAt l at n) (put-there .2) ∙ ap (λ (k : ℕ). bytesAt (placed buf at bytes) at k) (put-there .0) ∙ stands m body buf at (put-there .1) .1))
-        (record { message = reads m body passed; load = loads m body })
+        rw (put-there .2, put-there .0, placed-bytes dir buf at zone command ac given (put-there .1)) (reads-so (write-passed rules buf at sent n e))
+
+  reads-back : ReadsBack profile dir rules buf at sent m body
+  reads-back = record { found = found-again; back = reads-again }
+
+message-back : (profile : Profile) (buf : List ℕ) (at : ℕ) (m : Message) (body : List ℕ)
+    → ReadsBack profile (messageDirection m) (writeRules profile m body) buf at (messageFrame profile m body) m body
+message-back profile buf at (message.Command s) body =
+    reads-back profile Command (writeRules profile (message.Command s) body) buf at (s .zone) (s .command) 0 (saidData profile (s .command) (s .content)) (message.Command s) body
+    (λ e. record { message = reads profile (message.Command s) body e; load = refl })
+message-back profile buf at (message.Status s) body =
+    reads-back profile Answer (writeRules profile (message.Status s) body) buf at (s .zone) (s .command) 0 (saidData profile (s .command) (s .content)) (message.Status s) body
+    (λ e. record { message = reads profile (message.Status s) body e; load = refl })
+message-back profile buf at (message.Denied d) body =
+    reads-back profile Answer (writeRules profile (message.Denied d) body) buf at (d .zone) (d .command) (d .answer) body (message.Denied d) body
+    (λ e. record { message = reads profile (message.Denied d) body e; load = frame-promise .brought Answer (d .zone) (d .command) (d .answer) body .load })
+
+-- a command's answer code is not looked at
+read-kept : (profile : Profile) (dir : Direction) (zone command ac : ℕ) (body : List ℕ)
+    → readOf profile dir zone command (answerKept dir ac) body ≡ readOf profile dir zone command ac body
+unfolding readOf
+read-kept profile Command zone command ac body = refl
+read-kept profile Answer zone command ac body = refl
+
+fields-back : (profile : Profile) (dir : Direction) (buf : List ℕ) (at zone command ac : ℕ) (body : List ℕ)
+    → ReadsBack profile dir (readRules profile dir zone command ac body) buf at (frameOf dir zone command ac body) (messageOf profile dir zone command ac body) body
+fields-back profile dir buf at zone command ac body =
+    let m = messageOf profile dir zone command ac body in
+    reads-back profile dir (readRules profile dir zone command ac body) buf at zone command ac body m body
+    (λ e. record {
+      message = frame-reads profile dir zone command ac body ∙ ap fromReading (read-kept profile dir zone command ac body ∙ read-passed profile dir zone command ac body e);
+      load = ap (λ (l : List ℕ). deniedData m l) (frame-promise .brought dir zone command ac body .load);
+    })
 
 abbrev paperOf : ℕ → ℕ → ℕ → List ℕ → Paper
 paperOf zone command code body = record { zone = zone; command = command; answer = code; body = body }
@@ -300,25 +310,20 @@ module _ (profile : Profile) (dir : Direction) (bytes : List ℕ) (m : Message) 
         × (writeLeft (writeRules profile m body) buf at (messageFrame profile m body) ≡ placed buf at (messageFrame profile m body))
     put = write-fits (writeRules profile m body) buf at (messageFrame profile m body) (goes .lines) (rw bytes-are room)
 
-    said-again : messageAnswered profile buf at m (dataOf dir bytes) ≡ written.Bytes (length bytes)
-    unfolding messageAnswered
+    abbrev brought : List ℕ
+    brought = dataOf dir bytes
+
+    said-again : writeAnswered (writeRules profile m brought) buf at (messageFrame profile m brought) ≡ written.Bytes (length bytes)
     said-again = rw data-is (put .0 ∙ ap (λ (l : List ℕ). written.Bytes (length l)) bytes-are)
 
-    left-again : messageLeft profile buf at m (dataOf dir bytes) ≡ placed buf at bytes
-    unfolding messageLeft
+    left-again : writeLeft (writeRules profile m brought) buf at (messageFrame profile m brought) ≡ placed buf at bytes
     left-again = rw data-is (put .1 ∙ ap (λ (l : List ℕ). placed buf at l) bytes-are)
-
--- the write of a denied message does not ask the profile
-denied-again : (profile other : Profile) (buf : List ℕ) (at : ℕ) (d : Denial) (body : List ℕ) (n : ℕ) → messageAnswered profile buf at (message.Denied d) body ≡ written.Bytes n
-    → ReadsAs other Answer (bytesAt (messageLeft profile buf at (message.Denied d) body) at n) (message.Denied d) body
-unfolding messageAnswered messageLeft
-denied-again profile other buf at d body n e = reads-again other buf at (message.Denied d) body n e
 
 pub message-promise : MessagePromise
 message-promise = record {
-  found = found-again;
-  back = reads-again;
-  denied = denied-again;
+  message = message-back;
+  fields = fields-back;
+  denied = λ profile other buf at d body. message-back other buf at (message.Denied d) body;
   way = λ profile dir bytes m e. goes profile dir bytes m e .way;
   said = said-again;
   again = left-again;

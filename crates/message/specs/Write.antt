@@ -1,21 +1,17 @@
 -- Document 01, 'Refusal numbers': "Writing checks the same (a message written as denied: only 5, then 3 for data over 255) and then 9."
-use Prim.Native.Nat.{ℕ, _+_}
+use Prim.Native.Nat.{ℕ}
 use mathlib.Core.Bool.{not}
 use mathlib.Core.List.{List, [], _∷_, _++_}
-use lib.ListN.{length}
-use Rattle.refusals.specs.Rule.{Rule, rule, ruled}
-use Rattle.lent.specs.Written.{writeAnswered, writeLeft}
+use Rattle.refusals.specs.Rule.{Rule, rule}
 use Rattle.frame.specs.Frame.{frameOf}
 use Rattle.fields.specs.Raw.{tooLong}
 use Rattle.frame.specs.declared.direction.Direction.{Direction}
 use Rattle.frame.specs.declared.direction.Direction.the-variants.{Command, Answer}
-use Rattle.lent.specs.declared.written.Written.{Written}
-use Rattle.lent.specs.declared.written.Written.the-variants.{Bytes, Refused}
 use Rattle.row.specs.Table.{rowOf}
 use Rattle.row.specs.declared.profile.Profile.{Profile}
 use Rattle.judging.specs.Judge.{wrongLength, rowIn, rowRules}
 use Rattle.message.specs.Content.{encodedOf, encodedData, sizeOf, isForm}
-use Rattle.message.specs.Message.{isDenial, readRules}
+use Rattle.message.specs.Message.{isDenial}
 use Rattle.message.specs.declared.content.Content.{Content}
 use Rattle.message.specs.declared.read.Message.{Message}
 use Rattle.message.specs.declared.read.Message.the-variants as message
@@ -51,16 +47,3 @@ abbrev pub messageFrame : Profile → Message → List ℕ → List ℕ
 messageFrame profile (message.Command s) body = frameOf Command (s .zone) (s .command) 0 (saidData profile (s .command) (s .content))
 messageFrame profile (message.Status s) body = frameOf Answer (s .zone) (s .command) 0 (saidData profile (s .command) (s .content))
 messageFrame profile (message.Denied d) body = frameOf Answer (d .zone) (d .command) (d .answer) body
-
--- a message, and fields and data that are to be a message
-unfoldable pub messageAnswered : Profile → List ℕ → ℕ → Message → List ℕ → Written
-messageAnswered profile buf at m body = writeAnswered (writeRules profile m body) buf at (messageFrame profile m body)
-
-unfoldable pub messageLeft : Profile → List ℕ → ℕ → Message → List ℕ → List ℕ
-messageLeft profile buf at m body = writeLeft (writeRules profile m body) buf at (messageFrame profile m body)
-
-unfoldable pub fieldsAnswered : Profile → Direction → List ℕ → ℕ → ℕ → ℕ → ℕ → List ℕ → Written
-fieldsAnswered profile dir buf at zone command ac body = writeAnswered (readRules profile dir zone command ac body) buf at (frameOf dir zone command ac body)
-
-unfoldable pub fieldsLeft : Profile → Direction → List ℕ → ℕ → ℕ → ℕ → ℕ → List ℕ → List ℕ
-fieldsLeft profile dir buf at zone command ac body = writeLeft (readRules profile dir zone command ac body) buf at (frameOf dir zone command ac body)
