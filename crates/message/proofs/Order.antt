@@ -1,7 +1,8 @@
 -- The first rule that applies gives its number; a message comes exactly when none applies. A refusal has no fields.
 use mathlib.Core.Path.{_≡_, refl, ap, sym, _∙_}
-use mathlib.Core.List.{List}
+use mathlib.Core.List.{List, [], _∷_}
 use mathlib.Core.Logic.{_⊎_, inl, inr}
+use mathlib.Core.Bool.{false}
 use Prim.Native.Nat.{ℕ}
 use native.Mathlib.Omega.{arith}
 use borrow.Author.Tests.{ne-eqb}
@@ -9,6 +10,7 @@ use Rattle.refusals.specs.Rule.{Rule}
 use Rattle.frame.specs.Frame.{frameOf}
 use Rattle.refusals.specs.RulePromise.{FirstApplies, NoneApplies}
 use Rattle.frame.specs.declared.direction.Direction.{Direction}
+use Rattle.refusals.proofs.Ruled.{refuses, pass-both}
 use Rattle.refusals.proofs.Rules.{rule-promise}
 use Rattle.lent.proofs.Writes.{write-promise}
 use Rattle.row.specs.Profile.{profileOf}
@@ -16,7 +18,7 @@ use Rattle.row.specs.declared.profile.Profile.{Profile}
 use Rattle.message.specs.Message.{readRules, messageOf, readOf, frameRead}
 use Rattle.message.specs.Write.{writeRules, messageFrame}
 use Rattle.message.specs.Numbers.{readingNumber, readingPaper, frameNumber, framePaper, zeroPaper}
-use Rattle.message.proofs.Trip.{paper-of}
+use Rattle.message.proofs.Trip.{paper-of, passed-message}
 use Rattle.message.specs.OrderPromise.{OrderPromise}
 use Rattle.message.specs.MessageWritePromise.{MessageWritePromise}
 use Rattle.message.specs.MessageRefusalPromise.{MessageRefusalPromise}
@@ -26,17 +28,20 @@ use Rattle.message.specs.declared.read.FrameReading.the-variants as fram
 use Rattle.message.specs.declared.read.Reading.{Reading}
 use Rattle.message.specs.declared.read.Reading.the-variants as reading
 
+none-refuses : (rs : List Rule) → NoneApplies rs → refuses rs ≡ false
+none-refuses [] w = refl
+none-refuses (r ∷ rs) w = pass-both r rs (w .0) (none-refuses rs (w .1))
+
 module _ (profile : Profile) (dir : Direction) (zone command ac : ℕ) (body : List ℕ) where
   abbrev rules : List Rule
   rules = readRules profile dir zone command ac body
 
   refused : (n : ℕ) → FirstApplies rules n → readOf profile dir zone command ac body ≡ reading.Refused n
   unfolding readOf
-  refused n w = rule-promise .refused rules n w reading.Refused (reading.Message (messageOf profile dir zone command ac body))
+  refused n w = rule-promise .refused rules n w reading.Refused (messageOf profile dir zone command ac body)
 
-  read : NoneApplies rules → readOf profile dir zone command ac body ≡ reading.Message (messageOf profile dir zone command ac body)
-  unfolding readOf
-  read w = rule-promise .accepted rules w reading.Refused (reading.Message (messageOf profile dir zone command ac body))
+  read : NoneApplies rules → (m : Message) × (readOf profile dir zone command ac body ≡ reading.Message m) × (messageOf profile dir zone command ac body ≡ reading.Message m)
+  read w = passed-message profile dir zone command ac body (none-refuses rules w)
 
   differ : {X : Type 0} (m : Message) (n : ℕ) → reading.Message m ≡ reading.Refused n → X
   differ m n e = let z : _≡_ {A = ℕ} 0 1 = cc in absurd (omega arith)
@@ -49,7 +54,7 @@ module _ (profile : Profile) (dir : Direction) (zone command ac : ℕ) (body : L
 
       go : ((k : ℕ) × FirstApplies rules k) ⊎ NoneApplies rules → FirstApplies rules n
       go (inl w) = let k : w .0 ≡ n = same (w .0) (sym (refused (w .0) (w .1)) ∙ e) in rw k at (w .1)
-      go (inr w) = differ _ n (sym (read w) ∙ e)
+      go (inr w) = differ _ n (sym (read w .1) ∙ e)
 
   none : (m : Message) → readOf profile dir zone command ac body ≡ reading.Message m → NoneApplies rules
   none m e = go (rule-promise .either rules)

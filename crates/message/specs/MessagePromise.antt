@@ -4,7 +4,6 @@ use mathlib.Core.Path.{_≡_}
 use mathlib.Core.List.{List}
 use Prim.Native.Nat.{ℕ, _+_, _≤_}
 use lib.ListN.{length}
-use Rattle.refusals.specs.Rule.{Rule}
 use Rattle.lent.specs.Placed.{placed, bytesAt}
 use Rattle.lent.specs.Written.{writeAnswered, writeLeft}
 use Rattle.frame.specs.Frame.{frameOf}
@@ -21,6 +20,7 @@ use Rattle.message.specs.Write.{messageDirection, writeRules, messageFra
 use Rattle.message.specs.declared.read.Denial.{Denial}
 use Rattle.message.specs.declared.read.Message.{Message}
 use Rattle.message.specs.declared.read.Message.the-variants.{Denied}
+use Rattle.message.specs.declared.read.Reading.the-variants as reading
 use Rattle.message.specs.declared.read.FrameReading.the-variants as frame
 
 -- bytes that read as a message with these data (a denied message's; the others have none beside their content)
@@ -28,21 +28,25 @@ pub record ReadsAs (profile : Profile) (dir : Direction) (bytes : List ℕ) (m :
   pub message : frameRead profile dir bytes ≡ frame.Message m
   pub load : deniedData m (dataOf dir bytes) ≡ deniedData m body
 
--- bytes that rules let be written: at their place they are one frame, and it reads as a message with these data
-pub record ReadsBack (profile : Profile) (dir : Direction) (rules : List Rule) (buf : List ℕ) (at : ℕ) (bytes : List ℕ) (m : Message) (body : List ℕ) : Type 0 where
-  pub found : (n : ℕ) → writeAnswered rules buf at bytes ≡ written.Bytes n → firstOf (eventsFrom dir (writeLeft rules buf at bytes) at) ≡ next.Event (event at n kind.Frame)
-  pub back : (n : ℕ) → writeAnswered rules buf at bytes ≡ written.Bytes n → ReadsAs profile dir (bytesAt (writeLeft rules buf at bytes) at n) m body
+-- so many bytes from a place on are one frame there, and it reads as a message with these data
+pub record ReadsBack (profile : Profile) (dir : Direction) (buf : List ℕ) (at n : ℕ) (m : Message) (body : List ℕ) : Type 0 where
+  pub found : firstOf (eventsFrom dir buf at) ≡ next.Event (event at n kind.Frame)
+  pub back : ReadsAs profile dir (bytesAt buf at n) m body
 
 pub record MessagePromise : Type 0 where
-  -- a message that is written reads back as itself
-  pub message : (profile : Profile) (buf : List ℕ) (at : ℕ) (m : Message) (body : List ℕ)
-      → ReadsBack profile (messageDirection m) (writeRules profile m body) buf at (messageFrame profile m body) m body
-  -- fields and data that are written read back as the message that they are
-  pub fields : (profile : Profile) (dir : Direction) (buf : List ℕ) (at zone command ac : ℕ) (body : List ℕ)
-      → ReadsBack profile dir (readRules profile dir zone command ac body) buf at (frameOf dir zone command ac body) (messageOf profile dir zone command ac body) body
+  -- a message that was written reads back as itself
+  pub message : (profile : Profile) (buf : List ℕ) (at : ℕ) (m : Message) (body : List ℕ) (n : ℕ)
+      → writeAnswered (writeRules profile m body) buf at (messageFrame profile m body) ≡ written.Bytes n
+      → ReadsBack profile (messageDirection m) (writeLeft (writeRules profile m body) buf at (messageFrame profile m body)) at n m body
   -- a denied message reads back under either profile
-  pub denied : (profile other : Profile) (buf : List ℕ) (at : ℕ) (d : Denial) (body : List ℕ)
-      → ReadsBack other Answer (writeRules profile (Denied d) body) buf at (messageFrame profile (Denied d) body) (Denied d) body
+  pub denied : (profile other : Profile) (buf : List ℕ) (at : ℕ) (d : Denial) (body : List ℕ) (n : ℕ)
+      → writeAnswered (writeRules profile (Denied d) body) buf at (messageFrame profile (Denied d) body) ≡ written.Bytes n
+      → ReadsBack other Answer (writeLeft (writeRules profile (Denied d) body) buf at (messageFrame profile (Denied d) body)) at n (Denied d) body
+  -- fields and data that were written are a message, and read back as it
+  pub fields : (profile : Profile) (dir : Direction) (buf : List ℕ) (at zone command ac : ℕ) (body : List ℕ) (n : ℕ)
+      → writeAnswered (readRules profile dir zone command ac body) buf at (frameOf dir zone command ac body) ≡ written.Bytes n
+      → (m : Message) × (messageOf profile dir zone command ac body ≡ reading.Message m)
+      × ReadsBack profile dir (writeLeft (readRules profile dir zone command ac body) buf at (frameOf dir zone command ac body)) at n m body
   -- a frame that reads as a message goes that message's way, and where there is room the message is written as its bytes
   pub way : (profile : Profile) (dir : Direction) (bytes : List ℕ) (m : Message) → frameRead profile dir bytes ≡ frame.Message m → messageDirection m ≡ dir
   pub said : (profile : Profile) (dir : Direction) (bytes : List ℕ) (m : Message) → frameRead profile dir bytes ≡ frame.Message m

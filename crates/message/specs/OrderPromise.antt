@@ -12,5 +12,6 @@ use Rattle.message.specs.declared.read.Reading.the-variants as reading
 pub record OrderPromise (profile : Profile) (dir : Direction) (zone command ac : ℕ) (body : List ℕ) : Type 0 where
   pub refused : (n : ℕ) → FirstApplies (readRules profile dir zone command ac body) n → readOf profile dir zone command ac body ≡ reading.Refused n
   pub applies : (n : ℕ) → readOf profile dir zone command ac body ≡ reading.Refused n → FirstApplies (readRules profile dir zone command ac body) n
-  pub read : NoneApplies (readRules profile dir zone command ac body) → readOf profile dir zone command ac body ≡ reading.Message (messageOf profile dir zone command ac body)
+  pub read : NoneApplies (readRules profile dir zone command ac body)
+      → (m : Message) × (readOf profile dir zone command ac body ≡ reading.Message m) × (messageOf profile dir zone command ac body ≡ reading.Message m)
   pub none : (m : Message) → readOf profile dir zone command ac body ≡ reading.Message m → NoneApplies (readRules profile dir zone command ac body)

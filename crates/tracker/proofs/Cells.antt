@@ -7,19 +7,17 @@ use native.Mathlib.Omega.{arith}
 use borrow.Author.Tests.{eqb-false, ltb-true, ltb-false}
 use lib.Dec.{eqb, ltb}
 use lib.ListN.{length, getD}
-use Rattle.refusals.proofs.Ruled.{pass-first}
 use Rattle.row.specs.Profile.{letterOf, zonesOf}
 use Rattle.row.specs.Table.{table, rowOf, placeOf}
 use Rattle.row.specs.declared.profile.Profile.{Profile}
 use Rattle.row.specs.declared.profile.Profile.the-variants.{A, S}
 use Rattle.row.specs.declared.table.Row.{Row}
-use Rattle.row.specs.declared.table.Found.{Found}
 use Rattle.row.specs.declared.table.Found.the-variants as found
 use Rattle.row.proofs.Rows.{Each, each-found, none-at, code-at}
-use Rattle.judging.specs.Judge.{isSetting, blank, profileZone, noRow, rowZone, isMissing, rowIn, rowRules, rowJudged}
+use Rattle.judging.specs.Judge.{isSetting, rowJudged}
 use Rattle.judging.specs.declared.judge.Judged.{Judged}
 use Rattle.judging.specs.declared.judge.Judged.the-variants as judged
-use Rattle.judging.proofs.Judges.{judged-legal}
+use Rattle.judging.proofs.Judges.{judged-lies}
 use Rattle.sheet.specs.Line.{legalIn, isLegal}
 use Rattle.sheet.specs.declared.line.Line.{Line}
 use Rattle.tracker.specs.Cell.{cellCount, cellIn, cellOf}
@@ -33,51 +31,36 @@ three : (profile : Profile) → zonesOf profile ≤ 3
 three A = omega arith
 three S = omega arith
 
-differ : true ≡ false → ⊥
-differ w = let z : _≡_ {A = ℕ} 0 1 = cc in omega arith
-
 -- a row that is there has a place in the table
-pub row-place : (profile : Profile) (command : ℕ) → isMissing (rowOf profile command) ≡ false → placeOf profile command < 19
+pub row-place : (profile : Profile) (command : ℕ) (row : Row) → rowOf profile command ≡ found.Row row → placeOf profile command < 19
 unfolding table
-row-place profile command e = go (ltb (placeOf profile command) 19) refl
+row-place profile command row e = go (ltb (placeOf profile command) 19) refl
   where
     go : (t : Bool) → ltb (placeOf profile command) 19 ≡ t → placeOf profile command < 19
     go true f = ltb-true (placeOf profile command) 19 f
     go false f =
-        let none : rowOf profile command ≡ found.NoRow = none-at table (letterOf profile) command (ltb-false (placeOf profile command) 19 f) in
-        let missing : true ≡ false = ap isMissing (sym none) ∙ e in absurd (differ missing)
+        let none : found.NoRow ≡ found.Row row = sym (none-at table (letterOf profile) command (ltb-false (placeOf profile command) 19 f)) ∙ e in
+        let z : _≡_ {A = ℕ} 0 1 = cc in absurd (omega arith)
 
 -- where zone and row are legal
-pub record Lies (profile : Profile) (zone command : ℕ) : Type 0 where
-  pub found : isMissing (rowOf profile command) ≡ false
+pub record Stands (profile : Profile) (zone command : ℕ) (row : Row) : Type 0 where
+  pub there : rowOf profile command ≡ found.Row row
   pub low : 1 ≤ zone
   pub high : zone ≤ 3
   pub place : placeOf profile command < 19
 
-pub lies : (profile : Profile) (zone command : ℕ) (row : Row) → rowJudged profile zone command ≡ judged.Legal row → Lies profile zone command
-unfolding rowJudged
-lies profile zone command row e =
-    let there = rowIn (rowOf profile command) in
-    let passes = judged-legal (rowRules profile zone command) there row e .0 in
-    let one = pass-first (profileZone profile zone) (noRow profile command ∷ rowZone there zone ∷ []) passes in
-    let two = pass-first (noRow profile command) (rowZone there zone ∷ []) (one .1) in
-    let zones = neither (eqb zone 0) (ltb (zonesOf profile) zone) (one .0) in
+pub stands : (profile : Profile) (zone command : ℕ) (row : Row) → rowJudged profile zone command ≡ judged.Legal row → Stands profile zone command row
+stands profile zone command row e =
+    let l = judged-lies profile zone command row e in
+    let zones = neither (eqb zone 0) (ltb (zonesOf profile) zone) (l .within) in
     let some = eqb-false zone 0 (zones .0) in
     let most = ltb-false (zonesOf profile) zone (zones .1) in
     record {
-      found = two .0;
+      there = l .there;
       low = omega (arith, some);
       high = omega (arith, most, three profile);
-      place = row-place profile command (two .0);
+      place = row-place profile command row (l .there);
     }
-
-pub the-row : (profile : Profile) (zone command : ℕ) (row : Row) → rowJudged profile zone command ≡ judged.Legal row → row ≡ rowIn (rowOf profile command)
-unfolding rowJudged
-the-row profile zone command row e = judged-legal (rowRules profile zone command) (rowIn (rowOf profile command)) row e .1
-
-pub the-found : (f : Found) → isMissing f ≡ false → f ≡ found.Row (rowIn f)
-the-found (found.Row row) e = refl
-the-found found.NoRow e = let z : _≡_ {A = ℕ} 0 1 = cc in absurd (omega arith)
 
 pub cell-number : (n i : ℕ) → At n ≡ At i → n ≡ i
 cell-number n i f = cc
@@ -87,21 +70,20 @@ no-cell i f = let z : _≡_ {A = ℕ} 0 1 = cc in omega arith
 
 -- where a cell is: zone and row are legal, and the row is none of pairs
 pub record Placed (profile : Profile) (zone command i : ℕ) : Type 0 where
-  pub legal : Lies profile zone command
-  pub single : rowIn (rowOf profile command) .pair ≡ false
+  pub row : Row
+  pub legal : Stands profile zone command row
+  pub single : row .pair ≡ false
   pub number : placeOf profile command * 3 + zone - 1 ≡ i
 
 pub placed : (profile : Profile) (zone command i : ℕ) → cellOf profile zone command ≡ At i → Placed profile zone command i
 unfolding cellOf
-placed profile zone command i e = go (rowJudged profile zone command) (λ row f. (lies profile zone command row f, the-row profile zone command row f)) e
+placed profile zone command i e = go (rowJudged profile zone command) (stands profile zone command) e
   where
-    half : (row : Row) (t : Bool) → row .pair ≡ t → Lies profile zone command × (row ≡ rowIn (rowOf profile command))
-        → cond t NoCell (At (placeOf profile command * 3 + zone - 1)) ≡ At i → Placed profile zone command i
+    half : (row : Row) (t : Bool) → row .pair ≡ t → Stands profile zone command row → cond t NoCell (At (placeOf profile command * 3 + zone - 1)) ≡ At i → Placed profile zone command i
     half row true p l f = absurd (no-cell i f)
-    half row false p l f = record { legal = l .0; single = ap (λ (r : Row). r .pair) (sym (l .1)) ∙ p; number = cell-number (placeOf profile command * 3 + zone - 1) i f }
+    half row false p l f = record { row = row; legal = l; single = p; number = cell-number (placeOf profile command * 3 + zone - 1) i f }
 
-    go : (j : Judged) → ((row : Row) → j ≡ judged.Legal row → Lies profile zone command × (row ≡ rowIn (rowOf profile command)))
-        → cellIn j (placeOf profile command) zone ≡ At i → Placed profile zone command i
+    go : (j : Judged) → ((row : Row) → j ≡ judged.Legal row → Stands profile zone command row) → cellIn j (placeOf profile command) zone ≡ At i → Placed profile zone command i
     go (judged.Legal row) l f = half row (row .pair) refl (l row refl) f
     go (judged.Refused n) l f = absurd (no-cell i f)
 
@@ -125,7 +107,7 @@ legal-cell profile l e = go (rowJudged profile (l .zone) (l .command)) refl e
     go : (j : Judged) → rowJudged profile (l .zone) (l .command) ≡ j → legalIn j (l .value) ≡ true
         → (i : ℕ) × (cellIn j (placeOf profile (l .command)) (l .zone) ≡ At i)
     go (judged.Legal row) f legal =
-        let there = the-found (rowOf profile (l .command)) (lies profile (l .zone) (l .command) row f .found) ∙ ap found.Row (sym (the-row profile (l .zone) (l .command) row f)) in
+        let there = stands profile (l .zone) (l .command) row f .there in
         let single = each-found Single table (letterOf profile) (l .command) row single-rows there (first-true (row .sheet) (isSetting row (l .value)) legal) in
         (placeOf profile (l .command) * 3 + l .zone - 1, rw single)
     go (judged.Refused n) f legal = let z : _≡_ {A = ℕ} 0 1 = cc in absurd (omega arith)
@@ -151,9 +133,9 @@ same-cell profile zone command z c i e f =
     let l = p .legal in
     let m = q .legal in
     let place : placeOf profile c ≡ placeOf profile command = omega (arith, l .low, l .high, m .low, m .high, p .number, q .number) in
-    let here = code-at table (letterOf profile) command blank (l .place) in
-    let there = code-at table (letterOf profile) c blank (m .place) in
-    (omega (arith, l .low, l .high, m .low, m .high, p .number, q .number), sym there ∙ ap (λ (k : ℕ). getD table k blank .code) place ∙ here)
+    let here = code-at table (letterOf profile) command (p .row) (l .place) in
+    let there = code-at table (letterOf profile) c (p .row) (m .place) in
+    (omega (arith, l .low, l .high, m .low, m .high, p .number, q .number), sym there ∙ ap (λ (k : ℕ). getD table k (p .row) .code) place ∙ here)
 
 -- no data have no first byte
 pub none-first : (xs : List ℕ) → length xs ≡ 0 → 0 ≡ getD xs 0 0

@@ -16,15 +16,16 @@ use Rattle.row.specs.Table.{table, rowOf}
 use Rattle.row.specs.declared.profile.Profile.{Profile}
 use Rattle.row.specs.declared.table.Row.{Row}
 use Rattle.row.specs.declared.table.Found.{Found}
+use Rattle.row.specs.declared.table.Found.the-variants as found
 use Rattle.row.proofs.Rows.{Each, each-found}
-use Rattle.judging.specs.Judge.{isAnswer, hasLength, hasValue, isMissing, rowIn, judgeRules}
-use Rattle.message.specs.Message.{isDenial, wrongCode, said, denial, messageOf, readRules, readOf}
+use Rattle.judging.specs.Judge.{isAnswer, hasLength, hasValue, judgeRules}
+use Rattle.message.specs.Message.{isDenial, wrongCode, said, denial, messageIn, messageOf, readRules, readOf}
 use Rattle.message.specs.declared.read.Said.{Said}
 use Rattle.message.specs.declared.read.Message.{Message}
 use Rattle.message.specs.declared.read.Message.the-variants as message
 use Rattle.message.specs.declared.read.Reading.{Reading}
 use Rattle.message.specs.declared.read.Reading.the-variants as reading
-use Rattle.judging.proofs.Judges.{Passes, judge-passes}
+use Rattle.judging.proofs.Judges.{Passes, judge-passes, same-row}
 use Rattle.tracker.specs.Cell.{cellOf}
 use Rattle.tracker.specs.Tracker.{knownState, isSpoilt, spoiltAt, spoiltIn, keptAt, keptIn}
 use Rattle.tracker.specs.Feed.{madeKnown, toldBy, afterAnswer}
@@ -33,9 +34,9 @@ use Rattle.tracker.specs.declared.cell.Cell.{Cell}
 use Rattle.tracker.specs.declared.cell.Cell.the-variants as cell
 use Rattle.tracker.specs.declared.tracker.Tracker.{Tracker}
 use Rattle.tracker.specs.declared.tracker.Kept.the-variants.{Value, NoCell}
-use Rattle.tracker.proofs.Cells.{the-found, placed, within, same-cell}
+use Rattle.tracker.proofs.Cells.{placed, within, same-cell}
 
--- a status brings the zone and command that were fed, and none of the lines applies to it
+-- a status brings the zone and command that were fed, and none of the rules applies to it
 record Brings (profile : Profile) (zone command : ℕ) (body : List ℕ) (s : Said) : Type 0 where
   its-zone : s .zone ≡ zone
   its-command : s .command ≡ command
@@ -45,23 +46,24 @@ brings : (profile : Profile) (zone command ac : ℕ) (body : List ℕ) (s : Said
     → Brings profile zone command body s
 unfolding readOf
 brings profile zone command ac body s e =
-    let w = was-accepted (readRules profile Answer zone command ac body) reading.Refused (reading.Message (messageOf profile Answer zone command ac body)) (reading.Message (message.Status s)) e differ in
+    let w = was-accepted (readRules profile Answer zone command ac body) reading.Refused (messageOf profile Answer zone command ac body) (reading.Message (message.Status s)) e differ in
     go (isDenial ac) (w .0) (w .1)
   where
     differ : (n : ℕ) → reading.Refused n ≡ reading.Message (message.Status s) → ⊥
     differ n f = let z : _≡_ {A = ℕ} 0 1 = cc in omega arith
 
+    status : (row : Row) → reading.Message (message.Status (said Answer row zone command body)) ≡ reading.Message (message.Status s) → said Answer row zone command body ≡ s
+    status row f = cc
+
     go : (t : Bool) → refuses (wrongCode ac ∷ cond t (tooLong body ∷ []) (judgeRules profile Answer zone command body)) ≡ false
-        → reading.Message (cond t (message.Denied (denial zone command ac)) (message.Status (said profile Answer zone command body))) ≡ reading.Message (message.Status s)
+        → cond t (reading.Message (message.Denied (denial zone command ac))) (messageIn (rowOf profile command) (λ row. message.Status (said Answer row zone command body))) ≡ reading.Message (message.Status s)
         → Brings profile zone command body s
     go true r f = let z : _≡_ {A = ℕ} 0 1 = cc in absurd (omega arith)
     go false r f =
-        let same : said profile Answer zone command body ≡ s = cc in
-        record {
-          its-zone = ap (λ (x : Said). x .zone) (sym same);
-          its-command = ap (λ (x : Said). x .command) (sym same);
-          passes = judge-passes profile Answer zone command body (pass-first (wrongCode ac) (judgeRules profile Answer zone command body) r .1);
-        }
+        let passes = judge-passes profile Answer zone command body (pass-first (wrongCode ac) (judgeRules profile Answer zone command body) r .1) in
+        let means : Row → Message = λ row. message.Status (said Answer row zone command body) in
+        let same = status (passes .row) (sym (ap (λ (x : Found). messageIn x means) (passes .lies .there)) ∙ f) in
+        record { its-zone = ap (λ (x : Said). x .zone) (sym same); its-command = ap (λ (x : Said). x .command) (sym same); passes = passes }
 
 -- the data of an answer in a row that is none of pairs are one byte, which the row has as an answer
 one-long : (row : Row) (n : ℕ) → row .pair ≡ false → hasLength Answer row n ≡ true → n ≡ 1
@@ -85,10 +87,9 @@ unspoilt-rows : Each Unspoilt table
 unfolding table
 unspoilt-rows = (λ b e. refl, (λ b e. refl, (λ b e. refl, (λ b e. refl, (λ b e. ap not e, (λ b e. ap not e, (λ b e. ap not e, (λ b e. refl, (λ b e. ap not e, (λ b e. ap not e, (λ b e. ap not e, (λ b e. ap not e, (λ b e. refl, (λ b e. refl, (λ b e. refl, (λ b e. refl, (λ b e. refl, (λ b e. ap not e, (λ b e. ap not e, tt)))))))))))))))))))
 
-unspoilt : (profile : Profile) (command b : ℕ) → isMissing (rowOf profile command) ≡ false → isAnswer (rowIn (rowOf profile command)) b ≡ true → spoiltIn profile command b ≡ false
-unspoilt profile command b m a =
-    let there = the-found (rowOf profile command) m in
-    ap (λ (f : Found). spoiltAt f b) there ∙ each-found Unspoilt table (letterOf profile) command (rowIn (rowOf profile command)) unspoilt-rows there b a
+unspoilt : (profile : Profile) (command b : ℕ) (row : Row) → rowOf profile command ≡ found.Row row → isAnswer row b ≡ true → spoiltIn profile command b ≡ false
+unspoilt profile command b row there a =
+    ap (λ (f : Found). spoiltAt f b) there ∙ each-found Unspoilt table (letterOf profile) command row unspoilt-rows there b a
 
 -- a cell that is made known
 module _ (t : Tracker) (zone command i b : ℕ) (e : cellOf (t .profile) zone command ≡ cell.At i) where
@@ -145,9 +146,12 @@ feed-promise t zone command ac body = record {
       let br = brings (t .profile) zone command ac body s f in
       let p = placed (t .profile) zone command i e in
       let passes = br .passes in
-      let one = one-byte (rowIn (rowOf (t .profile) command)) body (one-long (rowIn (rowOf (t .profile) command)) (length body) (p .single) (passes .long)) (passes .value) in
+      let row = passes .row in
+      let there = passes .lies .there in
+      let single : row .pair ≡ false = ap (λ (r : Row). r .pair) (same-row (rowOf (t .profile) command) row (p .row) there (p .legal .there)) ∙ p .single in
+      let one = one-byte row body (one-long row (length body) single (passes .long)) (passes .value) in
       let at : afterAnswer t zone command ac body ≡ madeKnown t (cell.At i) (one .0) =
       after-status t zone command ac body s f ∙ ap (λ (k : Cell). madeKnown t k (getD body 0 0)) e ∙ ap (λ (xs : List ℕ). madeKnown t (cell.At i) (getD xs 0 0)) (one .1) in
-      (one .0, one .1, ap (λ (x : Tracker). keptIn x zone command) at ∙ put-known t zone command i (one .0) e w (unspoilt (t .profile) command (one .0) (passes .found) (one .2)));
+      (one .0, one .1, ap (λ (x : Tracker). keptIn x zone command) at ∙ put-known t zone command i (one .0) e w (unspoilt (t .profile) command (one .0) row there (one .2)));
   others = λ z c other. settle t zone command ac body (λ x. keptIn x z c ≡ keptIn t z c) refl (λ s f. ap (λ (x : Tracker). keptIn x z c) (after-status t zone command ac body s f) ∙ put-cell t zone command ac body (cellOf (t .profile) zone command) refl z c other);
 }

@@ -2,7 +2,7 @@
 use mathlib.Core.Path.{sym, _∙_}
 use native.Mathlib.Omega.{arith}
 use Rattle.tracker.specs.Cell.{cellOf}
-use Rattle.tracker.proofs.Cells.{lies}
+use Rattle.tracker.proofs.Cells.{stands}
 use borrow.Author.Needs.{needs}
 use Rattle.tracker.proofs.cell.cell_of.Statement.{statement}
 use Rattle.tracker.proofs.cell.cell_of.Tie as tie
@@ -30,19 +30,19 @@ row-place-requires c κs = search needs
 mul-t8 : tie.Need-mul-t8
 mul-t8 c =
     let told = c .before .before .before .judged .given in
-    let l = lies _ _ _ (told .0 .0) (sym (c .before .before .before .before .before .judge-row .ensures) ∙ told .1) in
+    let l = stands _ _ _ (told .0 .0) (sym (c .before .before .before .before .before .judge-row .ensures) ∙ told .1) in
     omega (arith, l .place, c .row-place .ensures)
 
 add-t10 : tie.Need-add-t10
 add-t10 c =
     let told = c .before .before .before .judged .given in
-    let l = lies _ _ _ (told .0 .0) (sym (c .before .before .before .before .before .judge-row .ensures) ∙ told .1) in
+    let l = stands _ _ _ (told .0 .0) (sym (c .before .before .before .before .before .judge-row .ensures) ∙ told .1) in
     omega (arith, l .place, l .high, c .row-place .ensures)
 
 sub-t11 : tie.Need-sub-t11
 sub-t11 c =
     let told = c .before .before .before .judged .given in
-    let l = lies _ _ _ (told .0 .0) (sym (c .before .before .before .before .before .judge-row .ensures) ∙ told .1) in
+    let l = stands _ _ _ (told .0 .0) (sym (c .before .before .before .before .before .judge-row .ensures) ∙ told .1) in
     omega (arith, l .low)
 
 returns-3 : tie.Need-returns-3
