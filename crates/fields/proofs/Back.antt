@@ -38,6 +38,7 @@ use Rattle.fields.proofs.Raws.{raw-left}
 use Rattle.lent.proofs.Placed.{placed-length, placed-there}
 use Rattle.fields.proofs.Again.{frame-is, frame-fields, frame-data, data-length, frame-again}
 use Rattle.fields.proofs.Live.{live-frame}
+use Rattle.streams.specs.Stream.{answersBy, readerBy}
 
 -- all of a frame but its first byte and its last
 middle : Direction → ℕ → ℕ → ℕ → List ℕ → List ℕ
@@ -89,7 +90,7 @@ module _ (dir : Direction) (zone command code : ℕ) (body : List ℕ) where
 
   frame-answers : answers dir [] (opens ∷ (mid ++ ends ∷ []))
       ≡ replicate (length (opens ∷ mid)) answer.Waiting ++ answer.Frame (length (opens ∷ mid) + 1) ∷ []
-  unfolding answers
+  unfolding answersBy
   frame-answers =
       let first = taken-outside dir [] opens refl in
       let last = taken-end dir (opens ∷ mid) ends (omega arith) ended in
@@ -107,7 +108,7 @@ module _ (dir : Direction) (zone command code : ℕ) (body : List ℕ) where
       ∙ ap (λ (n : ℕ). replicate n answer.Waiting ++ answer.Frame (n + 1) ∷ []) (full dir zone command code body)
 
   frame-outside : takenBy dir [] (frameOf dir zone command code body) ≡ []
-  unfolding takenBy
+  unfolding readerBy
   frame-outside =
       ap (λ (l : List ℕ). takenBy dir [] l) frame-whole
       ∙ ap (λ (l : List ℕ). takenBy dir l (mid ++ ends ∷ [])) (taken-outside dir [] opens refl .1)

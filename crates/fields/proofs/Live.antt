@@ -19,6 +19,7 @@ use Rattle.frame.specs.declared.reader.ByteAnswer.the-variants as answer
 use Rattle.frame.proofs.Taken.{Stands, dl-more, taken-outside, taken-inside, taken-end, stands-by}
 use Rattle.frame.proofs.Means.{means}
 use Rattle.fields.proofs.Whole.{Whole, whole-is}
+use Rattle.streams.specs.Stream.{readerBy}
 
 -- what a reader has taken, seen in all that it was fed
 pub record Held (fed taken : List ℕ) : Type 0 where
@@ -57,7 +58,7 @@ module _ (dir : Direction) (fed taken : List ℕ) (b : ℕ) (h : Held fed taken)
           on (taken-end dir taken b (omega (arith, eqb-false (length taken) 0 e)) (ltb-false _ _ f) .1) (held-opened (eqb b opens) refl)
 
 held-by : (dir : Direction) (fed taken bs : List ℕ) → Held fed taken → Held (fed ++ bs) (takenBy dir taken bs)
-unfolding takenBy
+unfolding readerBy
 held-by dir fed taken [] h = subst (λ (l : List ℕ). Held l taken) (sym (mathlib.Core.List.append-nil fed)) h
 held-by dir fed taken (b ∷ bs) h =
     subst (λ (l : List ℕ). Held l (takenBy dir (takenAfter dir taken b) bs)) (append-assoc fed (b ∷ []) bs)

@@ -7,9 +7,12 @@ use lib.Dec.{eqb}
 use lib.ListN.{length, replicate}
 use mathlib.Core.Bool.{cond}
 use Rattle.frame.specs.Reader.{answers, takenBy}
-use Rattle.frame.specs.KeptReader.{fedOf, freshReader, answersOf, readerAfter}
+use Rattle.frame.specs.KeptReader.{freshReader, nextReader, byteAnswer, answersOf, readerAfter}
 use Rattle.frame.specs.Capture.{kindNumber, settles, settled, labels, count, partOf}
-use Rattle.frame.specs.CutPromise.{joined, answersInParts, fedInParts, addedUp, CutPromise}
+use Rattle.frame.specs.PartPromise.{fedInParts, addedUp, PartPromise}
+use Rattle.streams.specs.CutPromise.{joined}
+use Rattle.streams.proofs.Cut.{answers-append, reader-append, cut-promise}
+use Rattle.lists.proofs.InOrder.{in-order-append}
 use Rattle.frame.specs.declared.direction.Direction.{Direction}
 use Rattle.frame.specs.declared.reader.ByteAnswer.{ByteAnswer}
 use Rattle.frame.specs.declared.reader.ByteAnswer.the-variants as answer
@@ -19,37 +22,23 @@ use Rattle.frame.specs.declared.capture.Kind.{Kind}
 use Rattle.frame.specs.declared.capture.Kind.the-variants.{Frame, Broken, Noise, Pending}
 use Rattle.frame.proofs.Labels.{count-append, count-replicate}
 use Rattle.frame.proofs.Means.{reader-promise}
-
-answers-append : (r : Reader) (xs ys : List ℕ) → answersOf r (xs ++ ys) ≡ answersOf r xs ++ answersOf (readerAfter r xs) ys
-unfolding answersOf readerAfter
-answers-append r [] ys = refl
-answers-append r (x ∷ xs) ys = ap (λ (l : List ByteAnswer). fedOf r x .answer ∷ l) (answers-append (fedOf r x .reader) xs ys)
-
-reader-append : (r : Reader) (xs ys : List ℕ) → readerAfter r (xs ++ ys) ≡ readerAfter (readerAfter r xs) ys
-unfolding readerAfter
-reader-append r [] ys = refl
-reader-append r (x ∷ xs) ys = reader-append (fedOf r x .reader) xs ys
+use Rattle.streams.specs.Stream.{answersBy, readerBy}
+use Rattle.lists.specs.InOrder.{inOrder}
 
 settled-append : (as′ bs : List ByteAnswer) → settled (as′ ++ bs) ≡ settled as′ ++ settled bs
-unfolding settled
-settled-append [] bs = refl
-settled-append (a ∷ as′) bs = ap (λ (l : List Kind). settles a ++ l) (settled-append as′ bs) ∙ sym (append-assoc (settles a) (settled as′) (settled bs))
+settled-append as′ bs = in-order-append settles as′ bs
 
 part-append : (r : Reader) (xs ys : List ℕ) → partOf r (xs ++ ys) ≡ addedUp (partOf r xs) (partOf (readerAfter r xs) ys)
-part-append r xs ys = simp (reader-append, answers-append, settled-append, count-append)
-
-told : (r : Reader) (parts : List (List ℕ)) → answersInParts r parts ≡ answersOf r (joined parts)
-unfolding answersOf
-told r [] = refl
-told r (p ∷ ps) = ap (λ (l : List ByteAnswer). answersOf r p ++ l) (told (readerAfter r p) ps) ∙ sym (answers-append r p (joined ps))
+part-append r xs ys = simp (reader-append nextReader, answers-append nextReader byteAnswer, settled-append, count-append)
 
 counted : (r : Reader) (parts : List (List ℕ)) → fedInParts r parts ≡ partOf r (joined parts)
+unfolding inOrder
 counted r [] = refl
 counted r (p ∷ ps) = ap (λ (q : Part). addedUp (partOf r p) q) (counted (readerAfter r p) ps) ∙ sym (part-append r p (joined ps))
 
 -- nothing that is settled is pending
 none-pending : (told : List ByteAnswer) → count Pending (settled told) ≡ 0
-unfolding settled count
+unfolding inOrder count
 none-pending [] = refl
 none-pending (answer.Waiting ∷ rest) = none-pending rest
 none-pending (answer.Noise ∷ rest) = rw (none-pending rest)
@@ -64,9 +53,9 @@ labels-count k dir capture =
     count-append k (settled (answers dir [] capture)) (replicate (length (takenBy dir [] capture)) Pending)
     ∙ rw (count-replicate k Pending (length (takenBy dir [] capture)), reader-promise .told dir capture, reader-promise .stands dir capture)
 
-pub cut-promise : CutPromise
-cut-promise = record {
-  told = told;
+pub part-promise : PartPromise
+part-promise = record {
+  cut = cut-promise nextReader byteAnswer;
   counted = counted;
   frame = λ dir capture. sym (labels-count Frame dir capture ∙ add-zero _);
   broken = λ dir capture. sym (labels-count Broken dir capture ∙ add-zero _);

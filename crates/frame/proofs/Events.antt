@@ -23,6 +23,7 @@ use Rattle.frame.specs.declared.capture.Event.{Event}
 use Rattle.frame.proofs.Cases.{cases}
 use Rattle.frame.proofs.Header.{header-least}
 use Rattle.frame.proofs.Taken.{Stands, fills, taken-outside, taken-end}
+use Rattle.streams.specs.Stream.{answersBy, readerBy}
 
 -- the events of bytes that a reader goes on with, of a stretch that began at a place
 abbrev pub eventsOn : Direction → ℕ → List ℕ → List ℕ → List Event
@@ -46,7 +47,7 @@ module _ (dir : Direction) (at : ℕ) where
   -- one byte more
   pub events-byte : (taken : List ℕ) (b : ℕ) (bs : List ℕ) (a : ByteAnswer) (then : List ℕ) → answerTo dir taken b ≡ a → takenAfter dir taken b ≡ then
       → eventsOn dir at taken (b ∷ bs) ≡ eventsTold at (a ∷ answers dir then bs) (length (takenBy dir then bs))
-  unfolding answers takenBy
+  unfolding answersBy readerBy
   events-byte taken b bs a then e f =
       ap (λ (x : ByteAnswer). eventsTold at (x ∷ answers dir (takenAfter dir taken b) bs) (length (takenBy dir (takenAfter dir taken b) bs))) e
       ∙ ap (λ (l : List ℕ). eventsTold at (a ∷ answers dir l bs) (length (takenBy dir l bs))) f
@@ -65,7 +66,7 @@ module _ (dir : Direction) (at : ℕ) where
 
   -- a frame that is not finished
   events-pending : (b : ℕ) (bs : List ℕ) → eqb b opens ≡ true → Stands dir (b ∷ bs) → eventsOn dir at [] (b ∷ bs) ≡ event at (suc (length bs)) Pending ∷ []
-  unfolding eventsTold answers takenBy
+  unfolding eventsTold answersBy readerBy
   events-pending b bs e s =
       events-open b bs e
       ∙ ap (λ (l : List ℕ). eventsOn dir at (b ∷ []) l) (sym (append-nil bs))
@@ -153,7 +154,7 @@ module _ (dir : Direction) (at b : ℕ) (rest : List ℕ) (m : ℕ) (end : heade
         ∙ ap (λ (l : List ℕ). event at (suc m) Broken ∷ eventsOn dir (at + suc m) [] l) (sym (drop-cons rest m 0 long))
 
   whole : eqb b opens ≡ true → suc (length rest) ≤ suc m → Leads dir at (b ∷ rest) (event at (suc (length rest)) Pending)
-  unfolding Leads answers takenBy eventsTold
+  unfolding Leads answersBy readerBy eventsTold
   whole e short = events-pending dir at b rest e (omega arith) ∙ rw (drop-length rest)
 
   noise : eqb b opens ≡ false → Leads dir at (b ∷ rest) (event at 1 Noise)
@@ -176,7 +177,7 @@ module _ (dir : Direction) (at b : ℕ) (rest : List ℕ) (m : ℕ) (end : heade
 
 module _ (dir : Direction) (capture : List ℕ) (at : ℕ) where
   pub events-end : length capture ≤ at → eventsFrom dir capture at ≡ []
-  unfolding eventsFrom eventsTold answers takenBy
+  unfolding eventsFrom eventsTold answersBy readerBy
   events-end h = rw (drop-of-length-le capture {i = at} h)
 
   module _ (within : at < length capture) where

@@ -16,6 +16,7 @@ use Rattle.frame.specs.declared.reader.ByteAnswer.the-variants.{Waiting,
 use Rattle.frame.specs.declared.reader.Fed.{Fed}
 use Rattle.frame.proofs.Header.{header-least}
 use Rattle.frame.proofs.Taken.{Stands, dl-none, dl-more, dl-now, taken-outside, taken-inside, taken-end, stands-after}
+use Rattle.streams.specs.Stream.{answersBy, readerBy}
 
 -- one byte: the same answer, and the reader kept of what is taken then
 unfoldable pub Follows : Direction → List ℕ → ℕ → Type 0
@@ -96,7 +97,7 @@ follows dir taken b s = go (eqb (length taken) 0) (ltb (length taken) (header di
 -- a stream: the same answers, and the reader kept of what is taken then
 pub follows-all : (dir : Direction) (taken bs : List ℕ) → Stands dir taken
     → (answersOf (readerOf dir taken) bs ≡ answers dir taken bs) × (readerAfter (readerOf dir taken) bs ≡ readerOf dir (takenBy dir taken bs))
-unfolding answersOf readerAfter answers takenBy Follows
+unfolding answersBy readerBy Follows
 follows-all dir taken [] s = (refl, refl)
 follows-all dir taken (b ∷ bs) s =
     let step = follows dir taken b s in

@@ -11,3 +11,4 @@ pub mod Means
 pub mod Cut
 pub mod Tiled
 pub mod Refusals
+pub mod OneAnswer

@@ -21,6 +21,8 @@ use Rattle.frame.specs.declared.part.Part.{Part}
 use Rattle.frame.specs.declared.capture.Kind.the-variants.{Frame, Broken, Noise}
 use Rattle.frame.proofs.Cases.{cases}
 use Rattle.frame.proofs.Labels.{count-append, count-all}
+use Rattle.streams.specs.Stream.{answersBy, readerBy}
+use Rattle.lists.specs.InOrder.{inOrder}
 
 -- a byte settles no more bytes than were taken, itself among them
 unfoldable Settles : ℕ → Fed → Type 0
@@ -75,7 +77,7 @@ pub part-adds : (p : Part) (bs : List ℕ) → partFrom p bs ≡ record {
   broken = p .broken + count Broken (settled (answersOf (p .reader) bs));
   noise = p .noise + count Noise (settled (answersOf (p .reader) bs));
 }
-unfolding partFrom readerAfter answersOf settled count
+unfolding partFrom readerBy answersBy inOrder count
 part-adds p [] = simp add-zero
 part-adds p (b ∷ bs) = part-adds (withFed p (fedOf (p .reader) b)) bs ∙ simp (count-append, add-assoc)
 

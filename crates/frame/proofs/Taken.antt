@@ -14,6 +14,7 @@ use Rattle.frame.specs.declared.direction.Direction.{Direction}
 use Rattle.frame.specs.declared.reader.ByteAnswer.{ByteAnswer}
 use Rattle.frame.specs.declared.reader.ByteAnswer.the-variants.{Waiting, Noise, Frame, Broken}
 use Rattle.frame.proofs.Header.{header-least}
+use Rattle.streams.specs.Stream.{answersBy, readerBy}
 
 -- Dl of what is taken, with more bytes behind it
 pub dl-none : (dir : Direction) (taken : List ℕ) → length taken < header dir → dl dir taken ≡ 0
@@ -67,7 +68,7 @@ module _ (dir : Direction) (taken : List ℕ) (b : ℕ) where
 -- "inside, bytes fill the places in order": the answers are waiting, and the bytes are taken
 pub fills : (dir : Direction) (taken xs ys : List ℕ) → 0 < length taken → Stands dir (taken ++ xs)
     → (answers dir taken (xs ++ ys) ≡ replicate (length xs) Waiting ++ answers dir (taken ++ xs) ys) × (takenBy dir taken (xs ++ ys) ≡ takenBy dir (taken ++ xs) ys)
-unfolding answers takenBy
+unfolding answersBy readerBy
 fills dir taken [] ys some s = (rw (append-nil taken), rw (append-nil taken))
 fills dir taken (x ∷ xs) ys some s =
     let step = taken-inside dir taken x some (before-end dir taken x xs s) in
@@ -104,6 +105,6 @@ stands-after dir taken b s = go (eqb (length taken) 0) (ltb (length taken) (head
         stand (taken-end dir taken b (omega (arith, eqb-false (length taken) 0 e)) (ltb-false _ _ f) .1) (few (eqb b opens))
 
 pub stands-by : (dir : Direction) (taken bs : List ℕ) → Stands dir taken → Stands dir (takenBy dir taken bs)
-unfolding takenBy
+unfolding readerBy
 stands-by dir taken [] s = s
 stands-by dir taken (b ∷ bs) s = stands-by dir (takenAfter dir taken b) bs (stands-after dir taken b s)

@@ -21,6 +21,8 @@ use Rattle.frame.proofs.Labels.{count-all}
 use Rattle.frame.proofs.Taken.{taken-outside, taken-inside, taken-end}
 use Rattle.frame.proofs.Events.{eventsOn, events-byte, events-end, events-here}
 use Rattle.frame.proofs.Totals.{labels-spread}
+use Rattle.streams.specs.Stream.{answersBy, readerBy}
+use Rattle.lists.specs.InOrder.{inOrder}
 
 -- an answer that ends a stretch ends one with a byte in it
 abbrev Ends : ByteAnswer → Type 0
@@ -92,7 +94,7 @@ tiles-pending at zero = omega arith
 tiles-pending at (suc n) = (refl, omega arith, omega arith)
 
 tiles-on : (dir : Direction) (bs : List ℕ) → Goes dir bs
-unfolding answers takenBy eventsTold
+unfolding answersBy readerBy eventsTold
 tiles-on dir [] = λ at taken. tiles-pending at (length taken)
 tiles-on dir (b ∷ bs) = λ at taken. tiles-byte dir at taken b bs (tiles-on dir bs)
 
@@ -101,7 +103,7 @@ unfolding eventsFrom
 tiled dir capture = tiles-to 0 (eventsFrom dir capture 0) (0 + (0 + length capture)) (length capture) (omega arith) (tiles-on dir capture 0 [])
 
 tiles-length : (at : ℕ) (es : List Event) (end : ℕ) → Tiles at es end → at + length (spread es) ≡ end
-unfolding spread
+unfolding inOrder
 tiles-length at [] end t = omega arith
 tiles-length at (e ∷ es) end t =
     omega (arith, tiles-length (at + e .length) es end (t .2), length-append (replicate (e .length) (e .kind)) (spread es), length-replicate (e .length) (e .kind))

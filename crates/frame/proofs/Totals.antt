@@ -18,10 +18,11 @@ use Rattle.frame.specs.declared.capture.Event.{Event}
 use Rattle.frame.specs.declared.capture.Totals.{Totals}
 use Rattle.frame.proofs.Labels.{count-append, count-replicate}
 use Rattle.frame.proofs.Events.{events-here, events-end}
+use Rattle.lists.specs.InOrder.{inOrder}
 
 -- the labels of the events that answers tell are those that the answers settle, and the pending ones
 spread-told : (at : ℕ) (told : List ByteAnswer) (left : ℕ) → spread (eventsTold at told left) ≡ settled told ++ replicate left Pending
-unfolding spread eventsTold settled
+unfolding inOrder eventsTold
 spread-told at [] zero = refl
 spread-told at [] (suc n) = append-nil (replicate (suc n) Pending)
 spread-told at (answer.Waiting ∷ rest) left = spread-told at rest left
@@ -55,7 +56,7 @@ event-adds t n Noise = simp (count-replicate, add-zero)
 event-adds t n Pending = simp (count-replicate, add-zero)
 
 events-add : (t : Totals) (es : List Event) → totalsFrom t es ≡ Counts t (spread es)
-unfolding totalsFrom spread count
+unfolding totalsFrom inOrder count
 events-add t [] = simp add-zero
 events-add t (e ∷ es) =
     events-add (withEvent t (e .length) (e .kind)) es

@@ -5,7 +5,8 @@ use mathlib.Core.List.{List, [], _∷_, _++_}
 use lib.Dec.{eqb, ltb}
 use lib.ListN.{length, drop, replicate}
 use mathlib.Core.Bool.{cond}
-use Rattle.refusals.specs.Rule.{rule, ruled}
+use Rattle.lists.specs.InOrder.{inOrder}
+use Rattle.refusals.specs.Rule.{Rule, rule, ruled}
 use Rattle.frame.specs.Reader.{answers, takenBy}
 use Rattle.frame.specs.KeptReader.{answersOf, readerAfter}
 use Rattle.frame.specs.declared.direction.Direction.{Direction}
@@ -34,9 +35,8 @@ settles answer.Noise = Noise ∷ []
 settles (answer.Frame n) = replicate n Frame
 settles (answer.Broken n) = replicate n Broken
 
-unfoldable pub settled : List ByteAnswer → List Kind
-settled [] = []
-settled (a ∷ rest) = settles a ++ settled rest
+abbrev pub settled : List ByteAnswer → List Kind
+settled told = inOrder settles told
 
 -- the label of each byte of a capture; "Bytes of an unfinished frame are pending."
 unfoldable pub labels : Direction → List ℕ → List Kind
@@ -63,10 +63,12 @@ totalsOf dir capture = record {
   pending = count Pending (labels dir capture);
 }
 
--- 11: "capture over 60,000 bytes"
+-- 11: "capture over 60,000 bytes", by how many it has
+abbrev pub longCapture : ℕ → Rule
+longCapture count = rule 11 (ltb captureLimit count)
+
 abbrev pub countedOf : Direction → List ℕ → Counted
-countedOf dir capture =
-    ruled (rule 11 (ltb captureLimit (length capture)) ∷ []) counted.Refused (counted.Totals (totalsOf dir capture))
+countedOf dir capture = ruled (longCapture (length capture) ∷ []) counted.Refused (counted.Totals (totalsOf dir capture))
 
 -- "Order: 12, then 11, before all others."
 abbrev pub countedBy : Named → List ℕ → Counted
@@ -108,6 +110,5 @@ firstOf [] = next.End
 firstOf (e ∷ es) = next.Event e
 
 -- the labels that events give to their bytes
-unfoldable pub spread : List Event → List Kind
-spread [] = []
-spread (e ∷ es) = replicate (e .length) (e .kind) ++ spread es
+abbrev pub spread : List Event → List Kind
+spread es = inOrder (λ (e : Event). replicate (e .length) (e .kind)) es

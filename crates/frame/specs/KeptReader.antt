@@ -6,6 +6,7 @@ use mathlib.Core.List.{List, [], _∷_}
 use lib.Dec.{eqb, ltb}
 use lib.ListN.{length}
 use mathlib.Core.Bool.{cond}
+use Rattle.streams.specs.Stream.{answersBy, readerBy}
 use Rattle.frame.specs.Frame.{header, opens, ends, dl}
 use Rattle.frame.specs.declared.direction.Direction.{Direction}
 use Rattle.frame.specs.declared.reader.ByteAnswer.{ByteAnswer}
@@ -39,11 +40,15 @@ fedAt dir head place n b =
 abbrev pub fedOf : Reader → ℕ → Fed
 fedOf r b = fedAt (r .direction) (header (r .direction)) (r .place) (r .dl) b
 
--- a part of a stream, from a given reader: the answers, and the reader after them
-unfoldable pub answersOf : Reader → List ℕ → List ByteAnswer
-answersOf r [] = []
-answersOf r (b ∷ bs) = fedOf r b .answer ∷ answersOf (fedOf r b .reader) bs
+abbrev pub nextReader : Reader → ℕ → Reader
+nextReader r b = fedOf r b .reader
 
-unfoldable pub readerAfter : Reader → List ℕ → Reader
-readerAfter r [] = r
-readerAfter r (b ∷ bs) = readerAfter (fedOf r b .reader) bs
+abbrev pub byteAnswer : Reader → ℕ → ByteAnswer
+byteAnswer r b = fedOf r b .answer
+
+-- a part of a stream, from a given reader: the answers, and the reader after them
+abbrev pub answersOf : Reader → List ℕ → List ByteAnswer
+answersOf r bytes = answersBy nextReader byteAnswer r bytes
+
+abbrev pub readerAfter : Reader → List ℕ → Reader
+readerAfter r bytes = readerBy nextReader r bytes

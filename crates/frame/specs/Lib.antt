@@ -9,7 +9,7 @@ pub mod Capture
 pub mod Numbers
 pub mod AnswerPromise
 pub mod ReaderPromise
-pub mod CutPromise
+pub mod PartPromise
 pub mod CapturePromise
 pub mod CaptureRefusalPromise
 pub mod Computed

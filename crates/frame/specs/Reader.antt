@@ -5,6 +5,7 @@ use mathlib.Core.Bool.{Bool, _||_, cond}
 use mathlib.Core.List.{List, [], _∷_, _++_}
 use lib.Dec.{eqb, leb}
 use lib.ListN.{length}
+use Rattle.streams.specs.Stream.{answersBy, readerBy}
 use Rattle.frame.specs.Frame.{header, opens, ends, dl}
 use Rattle.frame.specs.declared.direction.Direction.{Direction}
 use Rattle.frame.specs.declared.reader.ByteAnswer.{ByteAnswer}
@@ -35,12 +36,9 @@ unfoldable pub takenAfter : Direction → List ℕ → ℕ → List ℕ
 takenAfter dir taken b =
     cond (outside taken || atEnd dir taken) (cond (eqb b opens) (b ∷ []) []) (taken ++ b ∷ [])
 
--- the answers to the bytes of a stream, one by one
-unfoldable pub answers : Direction → List ℕ → List ℕ → List ByteAnswer
-answers dir taken [] = []
-answers dir taken (b ∷ bs) = answerTo dir taken b ∷ answers dir (takenAfter dir taken b) bs
+-- "It takes one byte at a time": the answers to the bytes of a stream, and the reader after them
+abbrev pub answers : Direction → List ℕ → List ℕ → List ByteAnswer
+answers dir taken bytes = answersBy (takenAfter dir) (answerTo dir) taken bytes
 
--- the reader after them
-unfoldable pub takenBy : Direction → List ℕ → List ℕ → List ℕ
-takenBy dir taken [] = taken
-takenBy dir taken (b ∷ bs) = takenBy dir (takenAfter dir taken b) bs
+abbrev pub takenBy : Direction → List ℕ → List ℕ → List ℕ
+takenBy dir taken bytes = readerBy (takenAfter dir) taken bytes

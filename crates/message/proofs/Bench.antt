@@ -9,7 +9,8 @@ use Rattle.row.specs.Signed.{numberOf}
 use Rattle.message.specs.Content.{contentOf}
 use Rattle.message.specs.Message.{readOf, frameRead}
 use Rattle.message.specs.BenchPromise.{frames, BenchPromise}
+use Rattle.streams.specs.Stream.{answersBy, readerBy}
 
 pub bench-promise : BenchPromise
-unfolding answerTo takenAfter answers takenBy eventsTold eventsFrom isFrame bytesAt table firstRow numberOf contentOf readOf frameRead frames
+unfolding answerTo takenAfter answersBy readerBy eventsTold eventsFrom isFrame bytesAt table firstRow numberOf contentOf readOf frameRead frames
 bench-promise = record { all = refl; holds = refl }

@@ -1,7 +1,7 @@
 -- A tail that is filled from its head: what stands in it, and the rest as it was.
 use mathlib.Core.Path.{_≡_, refl, ap, sym, _∙_}
 use mathlib.Core.List.{List, [], _∷_, _++_, append-assoc, append-nil}
-use Prim.Native.Nat.{ℕ, zero, suc, _+_, _-_, _*_, _<_}
+use Prim.Native.Nat.{ℕ, zero, suc, _+_, _-_, _*_, _≤_, _<_}
 use native.Mathlib.Numerals.{add-one}
 use native.Mathlib.Omega.{arith}
 use lib.ListN.{length, take, drop, getD, set, replicate, length-append, length-replicate}
@@ -12,7 +12,9 @@ use Rattle.lent.proofs.Tail.{tail-placed}
 use Rattle.row.specs.declared.profile.Profile.{Profile}
 use Rattle.sheet.specs.Sheet.{noLine}
 use Rattle.lists.specs.InOrder.{inOrder}
+use Rattle.lists.proofs.InOrder.{in-order-append}
 use Rattle.sheetfile.specs.File.{recordSize}
+use Rattle.sheetfile.specs.Run.{flush}
 use Rattle.sheetfile.specs.Computed.{zerosOf, bytesOf, sheetBytes}
 use Rattle.sheet.specs.declared.line.Line.{Line}
 use Rattle.sheetfile.specs.declared.write.Form.{Form}
@@ -44,12 +46,6 @@ zeros-more tail before i h e =
     ∙ sym (ap (λ (k : ℕ). replicate k 0 ++ drop k before) (add-one i) ∙ ap (λ (xs : List ℕ). xs ++ drop (suc i) before) (replicate-more i 0) ∙ append-assoc (replicate i 0) (0 ∷ []) (drop (suc i) before))
 
 -- lines
-in-order-append : (bytes : Line → List ℕ) (xs ys : List Line) → inOrder bytes (xs ++ ys) ≡ inOrder bytes xs ++ inOrder bytes ys
-unfolding inOrder
-in-order-append bytes [] ys = refl
-in-order-append bytes (x ∷ xs) ys =
-    ap (λ (zs : List ℕ). bytes x ++ zs) (in-order-append bytes xs ys) ∙ sym (append-assoc (bytes x) (inOrder bytes xs) (inOrder bytes ys))
-
 pub in-order-more : (bytes : Line → List ℕ) (lines : List Line) (i : ℕ) → i < length lines
     → inOrder bytes (take (i + 1) lines) ≡ inOrder bytes (take i lines) ++ bytes (getD lines i noLine)
 unfolding inOrder
@@ -77,3 +73,7 @@ sheet-length f profile ls =
       length-replicate {A = ℕ} (zerosOf f) 0,
       in-order-length (bytesOf f profile) (bytes-six f profile) ls,
     )
+
+pub zeros-most : (f : Form) → zerosOf f ≤ flush
+zeros-most form.File = omega arith
+zeros-most form.Run = omega arith

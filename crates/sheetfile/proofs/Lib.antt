@@ -3,7 +3,6 @@ pub mod Together
 pub mod Records
 pub mod Files
 pub mod Filled
-pub mod Rooms
 pub mod Trips
 pub mod Writes
 pub mod Plains

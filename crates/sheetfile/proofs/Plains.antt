@@ -11,7 +11,7 @@ use Rattle.sheet.specs.Sheet.{noLines, withAll, linesOf}
 use Rattle.sheet.specs.Check.{sheetVerdict}
 use Rattle.sheetfile.specs.File.{records, linesIn, fileOf, fileVerdict, readBy, fileRead, fileReadBy}
 use Rattle.sheetfile.specs.Run.{runOf}
-use Rattle.sheetfile.specs.Written.{answered, left, fileAnswered, fileLeft, runAnswered, runLeft}
+use Rattle.sheetfile.specs.Written.{sheetAnswered, sheetLeft, fileAnswered, fileLeft, runAnswered, runLeft}
 use Rattle.sheetfile.specs.Computed.{sheetBytes, fileAs}
 use Rattle.sheetfile.specs.declared.write.Form.{Form}
 use Rattle.sheetfile.specs.declared.write.Form.the-variants as form
@@ -51,11 +51,11 @@ module _ (profile : Profile) (file : List ℕ) where
 
 module _ (profile : Profile) (file : List ℕ) (buf : List ℕ) (at : ℕ) where
   -- refused: whatever was to be written
-  pub refused-answer : (n i : ℕ) (bytes : List ℕ) → fileRead profile file .verdict ≡ verdict.Refused n i → answered (fileVerdict profile file) buf at bytes ≡ answered (verdict.Refused n i) buf at bytes
-  refused-answer n i bytes e = ap (λ (v : Verdict). answered v buf at bytes) (said profile file (verdict.Refused n i) e)
+  pub refused-answer : (n i : ℕ) (bytes : List ℕ) → fileRead profile file .verdict ≡ verdict.Refused n i → sheetAnswered (fileVerdict profile file) buf at bytes ≡ sheetAnswered (verdict.Refused n i) buf at bytes
+  refused-answer n i bytes e = ap (λ (v : Verdict). sheetAnswered v buf at bytes) (said profile file (verdict.Refused n i) e)
 
-  pub refused-left : (n i : ℕ) (bytes : List ℕ) → fileRead profile file .verdict ≡ verdict.Refused n i → left (fileVerdict profile file) buf at bytes ≡ buf
-  refused-left n i bytes e = ap (λ (v : Verdict). left v buf at bytes) (said profile file (verdict.Refused n i) e)
+  pub refused-left : (n i : ℕ) (bytes : List ℕ) → fileRead profile file .verdict ≡ verdict.Refused n i → sheetLeft (fileVerdict profile file) buf at bytes ≡ buf
+  refused-left n i bytes e = ap (λ (v : Verdict). sheetLeft v buf at bytes) (said profile file (verdict.Refused n i) e)
 
   module _ (e : fileRead profile file .verdict ≡ verdict.Accepted) where
     copied-answer : fileAnswered profile (linesOf (fileRead profile file .sheet)) buf at ≡ copyAnswered (named.Profile profile) file buf at
@@ -76,15 +76,15 @@ module _ (profile : Profile) (file : List ℕ) (buf : List ℕ) (at : ℕ) where
 
   -- accepted: the sheet that was read is written as the file is
   pub as-answer : (f : Form) → fileRead profile file .verdict ≡ verdict.Accepted
-      → answered (sheetVerdict profile (linesOf (fileRead profile file .sheet))) buf at (sheetBytes f profile (linesOf (fileRead profile file .sheet)))
-      ≡ answered (fileVerdict profile file) buf at (fileAs f file)
+      → sheetAnswered (sheetVerdict profile (linesOf (fileRead profile file .sheet))) buf at (sheetBytes f profile (linesOf (fileRead profile file .sheet)))
+      ≡ sheetAnswered (fileVerdict profile file) buf at (fileAs f file)
   unfolding runOf
   as-answer form.File e = copied-answer e
   as-answer form.Run e = ran-answer e
 
   pub as-left : (f : Form) → fileRead profile file .verdict ≡ verdict.Accepted
-      → left (sheetVerdict profile (linesOf (fileRead profile file .sheet))) buf at (sheetBytes f profile (linesOf (fileRead profile file .sheet)))
-      ≡ left (fileVerdict profile file) buf at (fileAs f file)
+      → sheetLeft (sheetVerdict profile (linesOf (fileRead profile file .sheet))) buf at (sheetBytes f profile (linesOf (fileRead profile file .sheet)))
+      ≡ sheetLeft (fileVerdict profile file) buf at (fileAs f file)
   unfolding runOf
   as-left form.File e = copied-left e
   as-left form.Run e = ran-left e

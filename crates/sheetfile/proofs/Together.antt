@@ -7,7 +7,7 @@ use Rattle.sheet.specs.Sheet.{noLines, withAll, linesOf}
 use Rattle.sheet.specs.Check.{sheetVerdict}
 use Rattle.sheetfile.specs.File.{fileOf}
 use Rattle.sheetfile.specs.Run.{runOf}
-use Rattle.sheetfile.specs.Written.{answered, left, fileAnswered, fileLeft, runAnswered, runLeft}
+use Rattle.sheetfile.specs.Written.{sheetAnswered, sheetLeft, fileAnswered, fileLeft, runAnswered, runLeft}
 use Rattle.sheet.specs.declared.line.Line.{Line}
 use Rattle.sheet.specs.declared.check.Verdict.{Verdict}
 use Rattle.sheet.specs.declared.check.Verdict.the-variants as verdict
@@ -26,13 +26,13 @@ by-verdict {A} give refused profile ls =
 
 module _ (profile : Profile) (ls : List Line) (buf : List ℕ) (at : ℕ) where
   pub file-answer : fileAnswered profile (linesOf (withAll noLines ls)) buf at ≡ fileAnswered profile ls buf at
-  file-answer = by-verdict (λ v xs. answered v buf at (fileOf profile xs)) (λ n i xs ys. refl) profile ls
+  file-answer = by-verdict (λ v xs. sheetAnswered v buf at (fileOf profile xs)) (λ n i xs ys. refl) profile ls
 
   pub file-after : fileLeft profile (linesOf (withAll noLines ls)) buf at ≡ fileLeft profile ls buf at
-  file-after = by-verdict (λ v xs. left v buf at (fileOf profile xs)) (λ n i xs ys. refl) profile ls
+  file-after = by-verdict (λ v xs. sheetLeft v buf at (fileOf profile xs)) (λ n i xs ys. refl) profile ls
 
   pub run-answer : runAnswered profile (linesOf (withAll noLines ls)) buf at ≡ runAnswered profile ls buf at
-  run-answer = by-verdict (λ v xs. answered v buf at (runOf xs)) (λ n i xs ys. refl) profile ls
+  run-answer = by-verdict (λ v xs. sheetAnswered v buf at (runOf xs)) (λ n i xs ys. refl) profile ls
 
   pub run-after : runLeft profile (linesOf (withAll noLines ls)) buf at ≡ runLeft profile ls buf at
-  run-after = by-verdict (λ v xs. left v buf at (runOf xs)) (λ n i xs ys. refl) profile ls
+  run-after = by-verdict (λ v xs. sheetLeft v buf at (runOf xs)) (λ n i xs ys. refl) profile ls

@@ -6,7 +6,7 @@ use Rattle.row.specs.declared.profile.Named.{Named}
 use Rattle.row.specs.declared.profile.Named.the-variants as named
 use Rattle.sheetfile.specs.File.{records, linesIn, fileVerdict}
 use Rattle.sheetfile.specs.Run.{runOf}
-use Rattle.sheetfile.specs.Written.{answered, left}
+use Rattle.sheetfile.specs.Written.{sheetAnswered, sheetLeft}
 use Rattle.sheet.specs.declared.check.Verdict.{Verdict}
 use Rattle.sheet.specs.declared.check.Verdict.the-variants.{Refused}
 use Rattle.sheetfile.specs.declared.write.SheetWritten.{SheetWritten}
@@ -17,14 +17,14 @@ fileVerdictBy (named.Refused n) file = Refused n 0
 
 -- an accepted file is written as it is
 abbrev pub copyAnswered : Named → List ℕ → List ℕ → ℕ → SheetWritten
-copyAnswered family file buf at = answered (fileVerdictBy family file) buf at file
+copyAnswered family file buf at = sheetAnswered (fileVerdictBy family file) buf at file
 
 abbrev pub copyLeft : Named → List ℕ → List ℕ → ℕ → List ℕ
-copyLeft family file buf at = left (fileVerdictBy family file) buf at file
+copyLeft family file buf at = sheetLeft (fileVerdictBy family file) buf at file
 
 -- the run of an accepted file's lines
 abbrev pub fileRunAnswered : Named → List ℕ → List ℕ → ℕ → SheetWritten
-fileRunAnswered family file buf at = answered (fileVerdictBy family file) buf at (runOf (linesIn (records file)))
+fileRunAnswered family file buf at = sheetAnswered (fileVerdictBy family file) buf at (runOf (linesIn (records file)))
 
 abbrev pub fileRunLeft : Named → List ℕ → List ℕ → ℕ → List ℕ
-fileRunLeft family file buf at = left (fileVerdictBy family file) buf at (runOf (linesIn (records file)))
+fileRunLeft family file buf at = sheetLeft (fileVerdictBy family file) buf at (runOf (linesIn (records file)))

@@ -9,7 +9,8 @@ use Prim.Native.Nat.{ℕ, zero, suc, _+_, _*_, _<_}
 use lib.ListN.{length, replicate}
 use Rattle.row.specs.Profile.{letterOf, profileOf}
 use Rattle.row.specs.declared.profile.Profile.{Profile}
-use Rattle.sheet.specs.Sheet.{noLines, linesOf}
+use Rattle.lists.specs.Each.{Each}
+use Rattle.sheet.specs.Sheet.{sheetLimit, noLines, linesOf}
 use Rattle.sheet.specs.Check.{sheetVerdict}
 use Rattle.sheetfile.specs.File.{Record, recordSize, records, linesIn, isMarked, fileOf, fileVerdict, fileRead, fileReadBy}
 use Rattle.sheet.specs.SheetPromise.{Says}
@@ -23,8 +24,7 @@ LowestWrong profile (r ∷ rs) zero = isMarked profile r ≡ false
 LowestWrong profile (r ∷ rs) (suc i) = (isMarked profile r ≡ true) × LowestWrong profile rs i
 
 abbrev pub AllMarked : Profile → List Record → Type 0
-AllMarked profile [] = Unit {0}
-AllMarked profile (r ∷ rs) = (isMarked profile r ≡ true) × AllMarked profile rs
+AllMarked profile rs = Each (λ (r : Record). isMarked profile r ≡ true) rs
 
 pub record FilePromise (profile : Profile) (file : List ℕ) : Type 0 where
   pub uneven : (q r : ℕ) → length file ≡ q * recordSize + r → 0 < r → r < recordSize → Says (fileVerdict profile file) 10 q
@@ -40,7 +40,7 @@ pub record FilePromise (profile : Profile) (file : List ℕ) : Type 0 where
 
 pub record FileTrip (profile : Profile) (ls : List Line) : Type 0 where
   -- no lines are zeros throughout
-  pub nothing : noLines ≡ record { count = 0; lines = replicate 12 (record { zone = 0; command = 0; value = 0 }) }
+  pub nothing : noLines ≡ record { count = 0; lines = replicate sheetLimit (record { zone = 0; command = 0; value = 0 }) }
   -- "An empty file is an empty sheet."
   pub empty : fileRead profile [] ≡ record { verdict = Accepted; sheet = noLines }
   -- an accepted sheet's file is read as the same lines, in order

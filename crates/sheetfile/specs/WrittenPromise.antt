@@ -9,7 +9,7 @@ use Rattle.sheet.specs.Sheet.{linesOf}
 use Rattle.sheet.specs.Check.{sheetVerdict}
 use Rattle.sheetfile.specs.File.{recordSize, fileOf, fileRead}
 use Rattle.sheetfile.specs.Run.{flush, runOf}
-use Rattle.sheetfile.specs.Written.{answered, left, fileLeft, sheetWrittenNumber, sheetWrittenCount}
+use Rattle.sheetfile.specs.Written.{sheetAnswered, sheetLeft, fileLeft, sheetWrittenNumber, sheetWrittenCount}
 use Rattle.sheet.specs.declared.line.Line.{Line}
 use Rattle.sheet.specs.declared.check.Verdict.{Verdict}
 use Rattle.sheet.specs.declared.check.Verdict.the-variants as verdict
@@ -17,17 +17,17 @@ use Rattle.sheetfile.specs.declared.write.SheetWritten.the-variants.{Byt
 
 -- of any bytes that are written for a sheet of this verdict
 pub record WrittenPromise (v : Verdict) (buf : List ℕ) (at : ℕ) (bytes : List ℕ) : Type 0 where
-  pub checks : (n i : ℕ) → v ≡ verdict.Refused n i → answered v buf at bytes ≡ Refused n i
-  pub past : v ≡ verdict.Accepted → length buf < at → answered v buf at bytes ≡ Refused 9 0
-  pub few : v ≡ verdict.Accepted → at ≤ length buf → length buf < at + length bytes → answered v buf at bytes ≡ Refused 9 0
-  pub kept : (sheetWrittenNumber (answered v buf at bytes) ≡ 0 → ⊥) → left v buf at bytes ≡ buf
-  pub zero : (sheetWrittenNumber (answered v buf at bytes) ≡ 0 → ⊥) → sheetWrittenCount (answered v buf at bytes) ≡ 0
-  pub said : v ≡ verdict.Accepted → at + length bytes ≤ length buf → answered v buf at bytes ≡ Bytes (length bytes)
+  pub checks : (n i : ℕ) → v ≡ verdict.Refused n i → sheetAnswered v buf at bytes ≡ Refused n i
+  pub past : v ≡ verdict.Accepted → length buf < at → sheetAnswered v buf at bytes ≡ Refused 9 0
+  pub few : v ≡ verdict.Accepted → at ≤ length buf → length buf < at + length bytes → sheetAnswered v buf at bytes ≡ Refused 9 0
+  pub kept : (sheetWrittenNumber (sheetAnswered v buf at bytes) ≡ 0 → ⊥) → sheetLeft v buf at bytes ≡ buf
+  pub zero : (sheetWrittenNumber (sheetAnswered v buf at bytes) ≡ 0 → ⊥) → sheetWrittenCount (sheetAnswered v buf at bytes) ≡ 0
+  pub said : v ≡ verdict.Accepted → at + length bytes ≤ length buf → sheetAnswered v buf at bytes ≡ Bytes (length bytes)
   pub counted : v ≡ verdict.Accepted → at + length bytes ≤ length buf
-      → (sheetWrittenNumber (answered v buf at bytes) ≡ 0) × (sheetWrittenCount (answered v buf at bytes) ≡ length bytes)
-  pub there : v ≡ verdict.Accepted → at + length bytes ≤ length buf → take (length bytes) (drop at (left v buf at bytes)) ≡ bytes
-  pub before : take at (left v buf at bytes) ≡ take at buf
-  pub after : drop (at + length bytes) (left v buf at bytes) ≡ drop (at + length bytes) buf
+      → (sheetWrittenNumber (sheetAnswered v buf at bytes) ≡ 0) × (sheetWrittenCount (sheetAnswered v buf at bytes) ≡ length bytes)
+  pub there : v ≡ verdict.Accepted → at + length bytes ≤ length buf → take (length bytes) (drop at (sheetLeft v buf at bytes)) ≡ bytes
+  pub before : take at (sheetLeft v buf at bytes) ≡ take at buf
+  pub after : drop (at + length bytes) (sheetLeft v buf at bytes) ≡ drop (at + length bytes) buf
 
 -- "256 + 6n bytes", and six bytes a line; a file that was written reads back from its place in the buffer
 pub record SizePromise (profile : Profile) (ls : List Line) : Type 0 where

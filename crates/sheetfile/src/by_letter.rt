@@ -10,7 +10,7 @@ use sheet::check::Verdict;
 ghost use mathlib.Core.Path.{_≡_};
 ghost use Rattle.row.specs.Profile.{profileOf};
 ghost use Rattle.sheetfile.specs.File.{fileVerdict};
-ghost use Rattle.sheetfile.specs.Written.{answered, left};
+ghost use Rattle.sheetfile.specs.Written.{sheetAnswered, sheetLeft};
 ghost use Rattle.sheetfile.specs.Computed.{fileAs};
 ghost use Rattle.sheetfile.specs.ByLetter.{fileVerdictBy, copyAnswered, copyLeft, fileRunAnswered, fileRunLeft};
 
@@ -24,21 +24,24 @@ pub fn check_file(letter: u8, file: &[u8]) -> Verdict
 
 // Writes an accepted sheet file into the rest of the buffer from a place: the file's refusals, then 9.
 pub fn copy_file(letter: u8, file: &[u8], buf: &mut [u8], at: usize) -> SheetWritten
-    ensures { λ r. ⌜ (r ≡ copyAnswered (profileOf letter) (now (file .entry)) (now (buf .entry)) at) × (now (buf .exit) ≡ copyLeft (profileOf letter) (now (file .entry)) (now (buf .entry)) at) ⌝ }
+    ensures answers { λ r. ⌜ r ≡ copyAnswered (profileOf letter) (now (file .entry)) (now (buf .entry)) at ⌝ }
+    ensures leaves { λ _. ⌜ now (buf .exit) ≡ copyLeft (profileOf letter) (now (file .entry)) (now (buf .entry)) at ⌝ }
 {
     write_by(Form::File, letter, file, buf, at)
 }
 
 // Writes the run of a sheet file into the rest of the buffer from a place: the file's refusals, then 9.
 pub fn run_of_file(letter: u8, file: &[u8], buf: &mut [u8], at: usize) -> SheetWritten
-    ensures { λ r. ⌜ (r ≡ fileRunAnswered (profileOf letter) (now (file .entry)) (now (buf .entry)) at) × (now (buf .exit) ≡ fileRunLeft (profileOf letter) (now (file .entry)) (now (buf .entry)) at) ⌝ }
+    ensures answers { λ r. ⌜ r ≡ fileRunAnswered (profileOf letter) (now (file .entry)) (now (buf .entry)) at ⌝ }
+    ensures leaves { λ _. ⌜ now (buf .exit) ≡ fileRunLeft (profileOf letter) (now (file .entry)) (now (buf .entry)) at ⌝ }
 {
     write_by(Form::Run, letter, file, buf, at)
 }
 
 // Under the profile that the letter names.
 fn write_by(form: Form, letter: u8, file: &[u8], buf: &mut [u8], at: usize) -> SheetWritten
-    ensures { λ r. ⌜ (r ≡ answered (fileVerdictBy (profileOf letter) (now (file .entry))) (now (buf .entry)) at (fileAs form (now (file .entry)))) × (now (buf .exit) ≡ left (fileVerdictBy (profileOf letter) (now (file .entry))) (now (buf .entry)) at (fileAs form (now (file .entry)))) ⌝ }
+    ensures answers { λ r. ⌜ r ≡ sheetAnswered (fileVerdictBy (profileOf letter) (now (file .entry))) (now (buf .entry)) at (fileAs form (now (file .entry))) ⌝ }
+    ensures leaves { λ _. ⌜ now (buf .exit) ≡ sheetLeft (fileVerdictBy (profileOf letter) (now (file .entry))) (now (buf .entry)) at (fileAs form (now (file .entry))) ⌝ }
 {
     match profile_of(letter) {
         Named::Profile(profile) => write_read(form, profile, file, buf, at),
@@ -48,7 +51,8 @@ fn write_by(form: Form, letter: u8, file: &[u8], buf: &mut [u8], at: usize) -> S
 
 // The file's refusals first.
 fn write_read(form: Form, profile: Profile, file: &[u8], buf: &mut [u8], at: usize) -> SheetWritten
-    ensures { λ r. ⌜ (r ≡ answered (fileVerdict profile (now (file .entry))) (now (buf .entry)) at (fileAs form (now (file .entry)))) × (now (buf .exit) ≡ left (fileVerdict profile (now (file .entry))) (now (buf .entry)) at (fileAs form (now (file .entry)))) ⌝ }
+    ensures answers { λ r. ⌜ r ≡ sheetAnswered (fileVerdict profile (now (file .entry))) (now (buf .entry)) at (fileAs form (now (file .entry))) ⌝ }
+    ensures leaves { λ _. ⌜ now (buf .exit) ≡ sheetLeft (fileVerdict profile (now (file .entry))) (now (buf .entry)) at (fileAs form (now (file .entry))) ⌝ }
 {
     let read = read_file(profile, file);
     let verdict = read.verdict;

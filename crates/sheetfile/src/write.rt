@@ -1,6 +1,7 @@
 use crate::file::RECORD;
 use fields::raw::write_raw;
 use frame::direction::Direction;
+use lent::written::lacks_room;
 use row::profile::Profile;
 use row::profile::letter_of;
 use sheet::check::Verdict;
@@ -17,7 +18,7 @@ ghost use Rattle.lists.specs.InOrder.{inOrder};
 ghost use Rattle.sheetfile.specs.File.{recordSize, recordOf};
 ghost use Rattle.sheetfile.specs.Run.{lineFrame};
 ghost use Rattle.sheet.specs.Check.{sheetVerdict};
-ghost use Rattle.sheetfile.specs.Written.{answered, left, fileAnswered, fileLeft, runAnswered, runLeft};
+ghost use Rattle.sheetfile.specs.Written.{sheetAnswered, sheetLeft, fileAnswered, fileLeft, runAnswered, runLeft};
 ghost use Rattle.sheetfile.specs.Computed.{zerosOf, bytesOf, sheetBytes};
 ghost use Rattle.sheet.specs.declared.check.Verdict.the-variants as verdict;
 
@@ -38,14 +39,16 @@ pub(crate) enum Form {
 
 // Writes a sheet's file into the rest of the buffer from a place: the sheet's checks, then 9.
 pub fn put_file(buf: &mut [u8], at: usize, profile: Profile, sheet: Sheet) -> SheetWritten
-    ensures { λ r. ⌜ (r ≡ fileAnswered profile (linesOf sheet) (now (buf .entry)) at) × (now (buf .exit) ≡ fileLeft profile (linesOf sheet) (now (buf .entry)) at) ⌝ }
+    ensures answers { λ r. ⌜ r ≡ fileAnswered profile (linesOf sheet) (now (buf .entry)) at ⌝ }
+    ensures leaves { λ _. ⌜ now (buf .exit) ≡ fileLeft profile (linesOf sheet) (now (buf .entry)) at ⌝ }
 {
     put_sheet(Form::File, profile, sheet, buf, at)
 }
 
 // Writes a sheet's run into the rest of the buffer from a place: the sheet's checks, then 9 for the whole run.
 pub fn put_run(buf: &mut [u8], at: usize, profile: Profile, sheet: Sheet) -> SheetWritten
-    ensures { λ r. ⌜ (r ≡ runAnswered profile (linesOf sheet) (now (buf .entry)) at) × (now (buf .exit) ≡ runLeft profile (linesOf sheet) (now (buf .entry)) at) ⌝ }
+    ensures answers { λ r. ⌜ r ≡ runAnswered profile (linesOf sheet) (now (buf .entry)) at ⌝ }
+    ensures leaves { λ _. ⌜ now (buf .exit) ≡ runLeft profile (linesOf sheet) (now (buf .entry)) at ⌝ }
 {
     put_sheet(Form::Run, profile, sheet, buf, at)
 }
@@ -58,7 +61,8 @@ pub(crate) fn put_sheet(
     buf: &mut [u8],
     at: usize,
 ) -> SheetWritten
-    ensures { λ r. ⌜ (r ≡ answered (sheetVerdict profile (linesOf sheet)) (now (buf .entry)) at (sheetBytes form profile (linesOf sheet))) × (now (buf .exit) ≡ left (sheetVerdict profile (linesOf sheet)) (now (buf .entry)) at (sheetBytes form profile (linesOf sheet))) ⌝ }
+    ensures answers { λ r. ⌜ r ≡ sheetAnswered (sheetVerdict profile (linesOf sheet)) (now (buf .entry)) at (sheetBytes form profile (linesOf sheet)) ⌝ }
+    ensures leaves { λ _. ⌜ now (buf .exit) ≡ sheetLeft (sheetVerdict profile (linesOf sheet)) (now (buf .entry)) at (sheetBytes form profile (linesOf sheet)) ⌝ }
 {
     match checked(profile, sheet) {
         Verdict::Accepted => {
@@ -79,14 +83,11 @@ fn put_accepted(
     at: usize,
 ) -> SheetWritten
     requires { ⌜ count ≤ sheetLimit ⌝ }
-    ensures { λ r. ⌜ (r ≡ answered verdict.Accepted (now (buf .entry)) at (sheetBytes form profile (firstLines lines count))) × (now (buf .exit) ≡ left verdict.Accepted (now (buf .entry)) at (sheetBytes form profile (firstLines lines count))) ⌝ }
+    ensures answers { λ r. ⌜ r ≡ sheetAnswered verdict.Accepted (now (buf .entry)) at (sheetBytes form profile (firstLines lines count)) ⌝ }
+    ensures leaves { λ _. ⌜ now (buf .exit) ≡ sheetLeft verdict.Accepted (now (buf .entry)) at (sheetBytes form profile (firstLines lines count)) ⌝ }
 {
-    if at > buf.len() {
-        return SheetWritten::Refused(9, 0);
-    }
-    let zeros = zeros_of(form);
-    let length = zeros + count * RECORD;
-    if buf.len() - at < length {
+    let length = zeros_of(form) + count * RECORD;
+    if lacks_room(buf.len(), at, length) {
         return SheetWritten::Refused(9, 0);
     }
     put_bytes(&mut buf[at..], form, profile, lines, count);

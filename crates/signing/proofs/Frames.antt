@@ -23,15 +23,16 @@ use Rattle.fields.proofs.Back.{frame-promise}
 use Rattle.signing.specs.CaptureSignPromise.{BroughtPromise}
 use Rattle.tracker.specs.Feed.{BroughtAnswer}
 use Rattle.signing.specs.Capture.{broughtIn, broughtAll, broughtBy}
+use Rattle.streams.specs.Stream.{answersBy, readerBy}
 
 -- a reader goes on behind what it was fed
 answers-behind : (dir : Direction) (taken xs ys : List ℕ) → answers dir taken (xs ++ ys) ≡ answers dir taken xs ++ answers dir (takenBy dir taken xs) ys
-unfolding answers takenBy
+unfolding answersBy readerBy
 answers-behind dir taken [] ys = refl
 answers-behind dir taken (x ∷ xs) ys = ap (λ (ws : List ByteAnswer). answerTo dir taken x ∷ ws) (answers-behind dir (takenAfter dir taken x) xs ys)
 
 taken-behind : (dir : Direction) (taken xs ys : List ℕ) → takenBy dir taken (xs ++ ys) ≡ takenBy dir (takenBy dir taken xs) ys
-unfolding takenBy
+unfolding readerBy
 taken-behind dir taken [] ys = refl
 taken-behind dir taken (x ∷ xs) ys = taken-behind dir (takenAfter dir taken x) xs ys
 
@@ -124,7 +125,7 @@ module _ (zone command ac : ℕ) (body rest : List ℕ) where
 
 -- no bytes bring nothing, and one frame brings one answer
 pub brought-none : broughtBy [] ≡ []
-unfolding broughtAll eventsFrom eventsTold answers takenBy
+unfolding broughtAll eventsFrom eventsTold answersBy readerBy
 brought-none = refl
 
 pub brought-one : (zone command ac : ℕ) (body : List ℕ) → broughtBy (frameOf Answer zone command ac body) ≡ record { zone = zone; command = command; answer = ac; body = body } ∷ []
@@ -134,7 +135,7 @@ brought-one zone command ac body =
 
 -- a byte outside any frame brings nothing
 noise-here : (b : ℕ) (rest : List ℕ) → (b ≡ opens → ⊥) → broughtBy (b ∷ rest) ≡ broughtBy rest
-unfolding broughtAll eventsFrom eventsTold answers takenBy answerTo takenAfter
+unfolding broughtAll eventsFrom eventsTold answersBy readerBy answerTo takenAfter
 noise-here b rest other =
     let noise : answerTo Answer [] b ≡ Noise = rw (ne-eqb b opens other) in
     let outside : takenAfter Answer [] b ≡ [] = rw (ne-eqb b opens other) in

@@ -22,6 +22,7 @@ use Rattle.tracker.specs.declared.cell.Cell.the-variants.{At}
 use Rattle.tracker.specs.declared.tracker.Tracker.{Tracker}
 use Rattle.tracker.specs.declared.tracker.Kept.the-variants.{Value, Unknown, NoCell}
 use Rattle.signing.specs.declared.sign.Signed.the-variants.{Yes, No, Refused}
+use Rattle.streams.specs.Stream.{answersBy, readerBy}
 
 abbrev levelled : Tracker
 levelled = afterAnswer (freshTracker A) 2 0x39 0x00 (0xFF ∷ [])
@@ -110,10 +111,10 @@ whole =
     ∷ []
 
 pub capture-yes : captureSigned A two (whole ++ 0x21 ∷ 0x01 ∷ []) ≡ Yes
-unfolding answersFed allHold keptIn cellOf readOf rowJudged firstRow firstPlace table sheetVerdict lowestFault isLegal isRepeated broughtAll eventsFrom eventsTold answers takenBy answerTo takenAfter bytesAt isFrame
+unfolding answersFed allHold keptIn cellOf readOf rowJudged firstRow firstPlace table sheetVerdict lowestFault isLegal isRepeated broughtAll eventsFrom eventsTold answersBy readerBy answerTo takenAfter bytesAt isFrame
 capture-yes = refl
 
 -- one answer more that shows another value
 pub capture-no : captureSigned A two (whole ++ 0x21 ∷ 0x01 ∷ 0x38 ∷ 0x00 ∷ 0x01 ∷ 0x01 ∷ 0x0D ∷ []) ≡ No
-unfolding answersFed allHold keptIn cellOf readOf rowJudged firstRow firstPlace table sheetVerdict lowestFault isLegal isRepeated broughtAll eventsFrom eventsTold answers takenBy answerTo takenAfter bytesAt isFrame
+unfolding answersFed allHold keptIn cellOf readOf rowJudged firstRow firstPlace table sheetVerdict lowestFault isLegal isRepeated broughtAll eventsFrom eventsTold answersBy readerBy answerTo takenAfter bytesAt isFrame
 capture-no = refl

@@ -35,4 +35,4 @@ pub record SignRefusalPromise (t : Tracker) : Type 0 where
   -- what is no refusal: 1 for yes and 0 for no
   pub yes : (ls : List Line) → signOff t ls ≡ Yes → (signedNumber (signOff t ls) ≡ 0) × (signedPlace (signOff t ls) ≡ 0) × (signedYes (signOff t ls) ≡ 1)
   pub no : (ls : List Line) → signOff t ls ≡ No → (signedNumber (signOff t ls) ≡ 0) × (signedPlace (signOff t ls) ≡ 0) × (signedYes (signOff t ls) ≡ 0)
-  pub answerFed : (capture : List ℕ) → length capture ≤ captureLimit → captureNumber (captureFed t capture .answer) ≡ 0
+  pub fed : (capture : List ℕ) → length capture ≤ captureLimit → captureNumber (captureFed t capture .answer) ≡ 0

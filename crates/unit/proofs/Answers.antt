@@ -31,6 +31,7 @@ use Rattle.message.specs.FormPromise.{LegalData}
 use Rattle.message.proofs.Tests.{both}
 use Rattle.unit.specs.House.{valueAfter}
 use Rattle.unit.specs.Unit.{Setting, value, input, current, Settings, put, about, shown, Done, refusalCode, acted, zoneIn, commandIn, heard, frameDone}
+use Rattle.lists.proofs.Each.{each-append}
 use Rattle.unit.specs.Legal.{Legal}
 use Rattle.lists.specs.Each.{Each}
 use Rattle.unit.specs.Sending.{Bytes}
@@ -186,8 +187,7 @@ module _ (profile : Profile) (s : Settings) (bytes : List ℕ) where
 
 -- the bytes of an answer's frame
 pub bytes-append : (bs cs : List ℕ) → Bytes bs → Bytes cs → Bytes (bs ++ cs)
-bytes-append [] cs h g = g
-bytes-append (b ∷ bs) cs h g = (h .0, bytes-append bs cs (h .1) g)
+bytes-append bs cs h g = each-append (λ (b : ℕ). b < 256) bs cs h g
 
 byte-at : (bs : List ℕ) (i : ℕ) → Bytes bs → getD bs i 0 < 256
 byte-at [] i h = omega arith

@@ -1,12 +1,10 @@
--- Cells are told apart; what holds of each in a list.
+-- Settings are told apart.
 use mathlib.Core.Path.{_≡_, refl, ap, fun-ext}
 use mathlib.Core.Bool.{Bool, true, false, cond}
-use mathlib.Core.List.{List, [], _∷_}
 use borrow.Author.Tests.{eq-eqb, eqb-true}
 use lib.Dec.{eqb}
 use Rattle.message.proofs.Tests.{both}
 use Rattle.unit.specs.Unit.{Setting, value, input, current, Settings, sameSetting, put}
-use Rattle.lists.specs.Each.{Each}
 use Rattle.unit.proofs.Tests.{clash}
 
 pub is-cell : (x y : Setting) → sameSetting x y ≡ true → x ≡ y
@@ -34,11 +32,3 @@ put-same s x = fun-ext (λ y. go y (sameSetting x y) refl)
     go : (y : Setting) (t : Bool) → sameSetting x y ≡ t → cond t (s x) (s y) ≡ s y
     go y true e = ap s (is-cell x y e)
     go y false e = refl
-
-pub each-map : {A : Type 0} (P Q : A → Type 0) (xs : List A) → ((x : A) → P x → Q x) → Each P xs → Each Q xs
-each-map P Q [] f e = tt
-each-map P Q (x ∷ xs) f e = (f x (e .0), each-map P Q xs f (e .1))
-
-pub each-zip : {A : Type 0} (P Q R : A → Type 0) (xs : List A) → ((x : A) → P x → Q x → R x) → Each P xs → Each Q xs → Each R xs
-each-zip P Q R [] f e g = tt
-each-zip P Q R (x ∷ xs) f e g = (f x (e .0) (g .0), each-zip P Q R xs f (e .1) (g .1))

@@ -12,7 +12,7 @@ use Rattle.sheet.proofs.Sheets.{sheet-promise}
 use Rattle.lists.specs.Each.{Each}
 use Rattle.unit.specs.Sending.{Apart}
 use Rattle.unit.specs.Demand3.{Demand3}
-use Rattle.unit.proofs.Cells.{each-map}
+use Rattle.lists.proofs.Each.{each-map}
 use Rattle.unit.proofs.Sendings.{sending-promise}
 
 -- the lines of an accepted sheet are legal, and no two have the same zone and row

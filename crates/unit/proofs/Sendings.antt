@@ -19,7 +19,8 @@ use Rattle.lists.specs.Each.{Each}
 use Rattle.unit.specs.Sending.{Bytes, settingOf, NotOn, Apart, sending, sendings}
 use Rattle.unit.specs.Demand3.{stopped, Promised}
 use Rattle.unit.specs.SendingPromise.{SendingPromise}
-use Rattle.unit.proofs.Cells.{is-cell, cell-self, each-map, each-zip}
+use Rattle.unit.proofs.Cells.{is-cell, cell-self}
+use Rattle.lists.proofs.Each.{each-map, each-zip}
 use Rattle.unit.proofs.Sets.{line-promise}
 use Rattle.unit.proofs.Flush.{Within, byte-within, zero-nearer, opened, bytes-within, quiet}
 use Rattle.unit.proofs.Moments.{Always, always-last, always-append, always-take, after-append}

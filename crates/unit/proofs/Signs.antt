@@ -19,7 +19,7 @@ use Rattle.message.specs.declared.read.Message.{Message}
 use Rattle.message.specs.declared.read.Reading.{Reading}
 use Rattle.message.specs.declared.read.Reading.the-variants as reading
 use Rattle.message.specs.declared.read.FrameReading.the-variants as frame
-use Rattle.tracker.specs.Cell.{settingOf as trackerCell}
+use Rattle.tracker.specs.Cell.{cellOf as trackerCell}
 use Rattle.tracker.specs.Tracker.{freshTracker, keptIn}
 use Rattle.tracker.specs.Feed.{BroughtAnswer, answersFed}
 use Rattle.tracker.specs.HistoryPromise.{IsStatus, NoneOf, Last, HistoryPromise}

@@ -28,6 +28,7 @@ use Rattle.unit.specs.UnitPromise.{UnitPromise, HeardPromise}
 use Rattle.unit.proofs.Flush.{by-place}
 use Rattle.unit.proofs.Acts.{frame-legal, frame-now}
 use Rattle.unit.proofs.Answers.{bytes-append, frame-bytes}
+use Rattle.streams.specs.Stream.{readerBy}
 
 module _ (u : Unit) (b : ℕ) where
   -- a byte does nothing, or what its frame does
@@ -86,7 +87,7 @@ opened-after taken b o =
     (λ some early more. List·getD-append taken (b ∷ []) 0 0 some ∙ o some)
 
 opened-by : (taken bs : List ℕ) → Opened taken → Opened (takenBy Command taken bs)
-unfolding takenBy
+unfolding readerBy
 opened-by taken [] o = o
 opened-by taken (b ∷ bs) o = opened-by (takenAfter Command taken b) bs (opened-after taken b o)
 

@@ -26,6 +26,7 @@ use Rattle.sheet.specs.declared.line.Line.{Line}
 use Rattle.sheet.specs.declared.check.Verdict.the-variants.{Accepted}
 use Rattle.unit.specs.Unit.{Setting, value, input, current, sameSetting, Unit, Holds, frameDone, after}
 use Rattle.unit.specs.Legal.{Legal, RowIn}
+use Rattle.unit.specs.SettingsPromise.{SomeLegalPromise}
 use Rattle.unit.specs.Sending.{settingOf, NotOn, sending, sendings}
 use Rattle.unit.specs.UnitTablePromise.{zeroSettings}
 use Rattle.unit.specs.Demand3.{stopped, moment, Promised}
@@ -36,6 +37,7 @@ use Rattle.unit.proofs.Tests.{clash}
 use Rattle.unit.proofs.Sets.{row-there}
 use Rattle.unit.proofs.Sendings.{sending-promise}
 use Rattle.unit.proofs.Demand.{demand-3}
+use Rattle.streams.specs.Stream.{readerBy}
 
 -- 00 in every row, and input 01, are legal in both profiles
 abbrev zeroFits : Row → Bool
@@ -54,6 +56,9 @@ zeros-legal profile = record {
   where
     fits : (z c : ℕ) (row : Row) → RowIn profile z c row → zeroFits row ≡ true
     fits z c row there = row-passes zeroFits zero-fits profile c row (row-there profile z c row there .0)
+
+pub some-legal-promise : (profile : Profile) → SomeLegalPromise profile
+some-legal-promise profile = record { settings = zeroSettings; legal = zeros-legal profile }
 
 abbrev line : ℕ → ℕ → ℕ → Line
 line zone command v = record { zone = zone; command = command; value = v }
@@ -96,20 +101,20 @@ applied =
 -- what it says, computed beside it: at the first cut three lines are set and the reader stands inside the fourth's frame; at the end
 -- all are
 pub pulled : map (λ (l : Line). moment start sent 277 .settings (settingOf l)) twelve ≡ 0x02 ∷ 0x01 ∷ 0x02 ∷ replicate 9 0x00
-unfolding runOf inOrder after frameDone frameOf answerTo takenAfter takenBy readOf contentOf firstRow table numberOf codeOf plainCodeOf
+unfolding runOf inOrder after frameDone frameOf answerTo takenAfter readerBy readOf contentOf firstRow table numberOf codeOf plainCodeOf
 pulled = refl
 
 pub pulled-inside : moment start sent 277 .taken ≡ 0x21 ∷ 0x01 ∷ 0x39 ∷ []
-unfolding runOf inOrder after frameDone frameOf answerTo takenAfter takenBy readOf contentOf firstRow table numberOf codeOf plainCodeOf
+unfolding runOf inOrder after frameDone frameOf answerTo takenAfter readerBy readOf contentOf firstRow table numberOf codeOf plainCodeOf
 pulled-inside = refl
 
 -- the second sending, cut too, has added nothing by then
 pub pulled-again : map (λ (l : Line). moment start sent 377 .settings (settingOf l)) twelve ≡ 0x02 ∷ 0x01 ∷ 0x02 ∷ replicate 9 0x00
-unfolding runOf inOrder after frameDone frameOf answerTo takenAfter takenBy readOf contentOf firstRow table numberOf codeOf plainCodeOf
+unfolding runOf inOrder after frameDone frameOf answerTo takenAfter readerBy readOf contentOf firstRow table numberOf codeOf plainCodeOf
 pulled-again = refl
 
 pub reached : map (λ (l : Line). after start sent .settings (settingOf l)) twelve ≡ map (λ (l : Line). l .value) twelve
-unfolding runOf inOrder after frameDone frameOf answerTo takenAfter takenBy readOf contentOf firstRow table numberOf codeOf plainCodeOf
+unfolding runOf inOrder after frameDone frameOf answerTo takenAfter readerBy readOf contentOf firstRow table numberOf codeOf plainCodeOf
 reached = refl
 
 -- settings that are not on the sheet, a row's, an input's and the current input, at every moment
@@ -140,11 +145,11 @@ single = line 1 0x3A 0x05 ∷ []
 
 -- with 254 zeros the line's 21 is taken for data, and its frame is lost; with 255 it falls on the end place
 lost : after stuck (sending 254 single) .settings (value 1 0x3A) ≡ 0x00
-unfolding inOrder after frameDone frameOf answerTo takenAfter takenBy readOf contentOf firstRow table numberOf codeOf plainCodeOf
+unfolding inOrder after frameDone frameOf answerTo takenAfter readerBy readOf contentOf firstRow table numberOf codeOf plainCodeOf
 lost = refl
 
 pub found : after stuck (sending 255 single) .settings (value 1 0x3A) ≡ 0x05
-unfolding inOrder after frameDone frameOf answerTo takenAfter takenBy readOf contentOf firstRow table numberOf codeOf plainCodeOf
+unfolding inOrder after frameDone frameOf answerTo takenAfter readerBy readOf contentOf firstRow table numberOf codeOf plainCodeOf
 found = refl
 
 single-legal : isLegal A (line 1 0x3A 0x05) ≡ true

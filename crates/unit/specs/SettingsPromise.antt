@@ -19,3 +19,8 @@ pub record LegalPromise (profile : Profile) (s : Settings) (legal : Legal profil
       → Legal profile (put s (input i) v)
   pub current-input : ((zone command : ℕ) (row : Row) → RowIn profile zone command row → row .pair ≡ true → isAnswer row v ≡ true)
       → Legal profile (put s current v)
+
+-- legal settings there are, in either profile: what is promised of legal ones is promised of some
+pub record SomeLegalPromise (profile : Profile) : Type 0 where
+  pub settings : Settings
+  pub legal : Legal profile settings

@@ -2,7 +2,7 @@
 use mathlib.Core.Path.{sym, ap, _∙_}
 use Rattle.sheet.specs.Sheet.{linesOf}
 use Rattle.sheet.specs.Check.{sheetVerdict}
-use Rattle.sheetfile.specs.Written.{answered, left}
+use Rattle.sheetfile.specs.Written.{sheetAnswered, sheetLeft}
 use Rattle.sheetfile.specs.Computed.{sheetBytes, fileAs}
 use Rattle.sheetfile.specs.declared.file.FileRead.{FileRead}
 use Rattle.sheetfile.proofs.Plains.{refused-answer, refused-left, as-answer, as-left}
@@ -31,9 +31,9 @@ returns c =
     let read = c .before .before .before .before .before .before .before .read-file .ensures in
     let e = sym (ap (λ (x : FileRead). x .verdict) read) ∙ c .before .before .before .before .enum-told .given .1 in
     let put = c .before .before .put-sheet .ensures in (
-      put .0 ∙ ap (λ (x : FileRead). answered (sheetVerdict (g .profile) (linesOf (x .sheet))) (g .buf .now) (g .at) (sheetBytes (g .form) (g .profile) (linesOf (x .sheet)))) read
+      put .0 ∙ ap (λ (x : FileRead). sheetAnswered (sheetVerdict (g .profile) (linesOf (x .sheet))) (g .buf .now) (g .at) (sheetBytes (g .form) (g .profile) (linesOf (x .sheet)))) read
           ∙ as-answer (g .profile) (g .file .now) (g .buf .now) (g .at) (g .form) e,
-      put .1 ∙ ap (λ (x : FileRead). left (sheetVerdict (g .profile) (linesOf (x .sheet))) (g .buf .now) (g .at) (sheetBytes (g .form) (g .profile) (linesOf (x .sheet)))) read
+      put .1 ∙ ap (λ (x : FileRead). sheetLeft (sheetVerdict (g .profile) (linesOf (x .sheet))) (g .buf .now) (g .at) (sheetBytes (g .form) (g .profile) (linesOf (x .sheet)))) read
           ∙ as-left (g .profile) (g .file .now) (g .buf .now) (g .at) (g .form) e,
     )
 

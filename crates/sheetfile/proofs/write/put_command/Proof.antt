@@ -3,7 +3,7 @@ use mathlib.Core.List.{[], _∷_}
 use Rattle.frame.specs.declared.direction.Direction.the-variants as direction
 use mathlib.Core.Path.{_∙_}
 use Rattle.frame.specs.Frame.{frameOf}
-use Rattle.fields.proofs.Placed.{raw-left}
+use Rattle.fields.proofs.Raws.{raw-left}
 use borrow.Author.Needs.{needs}
 use Rattle.sheetfile.proofs.write.put_command.Statement.{statement}
 use Rattle.sheetfile.proofs.write.put_command.Tie as tie

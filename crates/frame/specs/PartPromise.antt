@@ -1,22 +1,14 @@
--- Promise: "how a stream is cut into calls changes nothing". Parts fed one after another, each from the reader that the
--- last one gave, bring the answers and the counts of the whole; from a fresh reader these are the capture's totals.
+-- Promise: "how a stream is cut into calls changes nothing". Parts fed one after another, each from the reader that the last one gave,
+-- bring the answers (`CutPromise` of any reader) and the counts of the whole; from a fresh reader these are the capture's totals.
 use mathlib.Core.Path.{_≡_}
-use mathlib.Core.List.{List, [], _∷_, _++_}
+use mathlib.Core.List.{List, [], _∷_}
 use Prim.Native.Nat.{ℕ, _+_}
-use Rattle.frame.specs.KeptReader.{freshReader, answersOf}
+use Rattle.streams.specs.CutPromise.{joined, CutPromise}
+use Rattle.frame.specs.KeptReader.{freshReader, nextReader, byteAnswer}
 use Rattle.frame.specs.Capture.{partOf, totalsOf}
 use Rattle.frame.specs.declared.direction.Direction.{Direction}
-use Rattle.frame.specs.declared.reader.ByteAnswer.{ByteAnswer}
 use Rattle.frame.specs.declared.reader.Reader.{Reader}
 use Rattle.frame.specs.declared.part.Part.{Part}
-
-abbrev pub joined : List (List ℕ) → List ℕ
-joined [] = []
-joined (p ∷ ps) = p ++ joined ps
-
-abbrev pub answersInParts : Reader → List (List ℕ) → List ByteAnswer
-answersInParts r [] = []
-answersInParts r (p ∷ ps) = answersOf r p ++ answersInParts (partOf r p .reader) ps
 
 abbrev pub addedUp : Part → Part → Part
 addedUp p q = record {
@@ -30,8 +22,8 @@ abbrev pub fedInParts : Reader → List (List ℕ) → Part
 fedInParts r [] = partOf r []
 fedInParts r (p ∷ ps) = addedUp (partOf r p) (fedInParts (partOf r p .reader) ps)
 
-pub record CutPromise : Type 0 where
-  pub told : (r : Reader) (parts : List (List ℕ)) → answersInParts r parts ≡ answersOf r (joined parts)
+pub record PartPromise : Type 0 where
+  pub cut : CutPromise nextReader byteAnswer
   pub counted : (r : Reader) (parts : List (List ℕ)) → fedInParts r parts ≡ partOf r (joined parts)
   pub frame : (dir : Direction) (capture : List ℕ) → partOf (freshReader dir) capture .frame ≡ totalsOf dir capture .frame
   pub broken : (dir : Direction) (capture : List ℕ) → partOf (freshReader dir) capture .broken ≡ totalsOf dir capture .broken
