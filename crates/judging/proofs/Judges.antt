@@ -1,13 +1,16 @@
 -- What a judgement says of its rules.
-use mathlib.Core.Path.{_≡_, refl, ap, sym, _∙_}
+use mathlib.Core.Path.{_≡_, refl, ap, sym, _∙_, subst}
 use mathlib.Core.Bool.{Bool, true, false, cond, not, _||_}
 use mathlib.Core.List.{List, [], _∷_}
+use mathlib.Core.Logic.{inl, inr}
 use Prim.Native.Nat.{ℕ, _<_}
 use native.Mathlib.Omega.{arith}
 use borrow.Author.Tests.{eqb-true, eqb-false, not-false}
 use lib.Dec.{eqb, ltb}
 use lib.ListN.{length}
+use Rattle.lists.specs.Each.{Each}
 use Rattle.refusals.specs.Rule.{Rule, rule, ruled}
+use Rattle.refusals.specs.RulePromise.{FirstApplies}
 use Rattle.frame.specs.declared.direction.Direction.{Direction}
 use Rattle.refusals.proofs.Ruled.{refuses, was-accepted, pass-first}
 use Rattle.row.specs.Profile.{zonesOf}
@@ -142,6 +145,20 @@ module _ (profile : Profile) (dir : Direction) (zone command : ℕ) (body : List
       the-row : (f : Found) → judgedBy f ≡ Legal row → f ≡ found.Row row
       the-row (found.Row r) g = ap found.Row (same-legal r row g)
       the-row found.NoRow g = legal-differs row 2 (sym g)
+
+-- what holds of each rule's number holds of the first that applies, and of what judges data it is asked of four
+pub first-number : (P : ℕ → Type 0) (rs : List Rule) → Each (λ (r : Rule). P (r .number)) rs → (n : ℕ) → FirstApplies rs n → P n
+first-number P [] e n w = absurd w
+first-number P (r ∷ rs) e n (inl w) = subst P (w .1) (e .0)
+first-number P (r ∷ rs) e n (inr w) = first-number P rs (e .1) n (w .1)
+
+pub judge-numbers : (P : ℕ → Type 0) → P 1 → P 2 → P 3 → P 4 → (profile : Profile) (dir : Direction) (zone command : ℕ) (body : List ℕ)
+    → Each (λ (r : Rule). P (r .number)) (judgeRules profile dir zone command body)
+judge-numbers P one two three four profile dir zone command body = go (rowOf profile command)
+  where
+    go : (f : Found) → Each (λ (r : Rule). P (r .number)) (profileZone profile zone ∷ byRow f (λ row. rowZone row zone ∷ wrongLength dir row (length body) ∷ wrongValue dir row body ∷ []))
+    go found.NoRow = (one, (two, tt))
+    go (found.Row row) = (one, (one, (three, (four, tt))))
 
 -- data whose length fits are not empty
 pub length-some : (dir : Direction) (row : Row) (n : ℕ) → hasLength dir row n ≡ true → 0 < n
