@@ -1,86 +1,164 @@
--- What a judgement says of its lines.
-use mathlib.Core.Path.{_≡_, refl, ap, sym, _∙_}
-use mathlib.Core.Bool.{Bool, true, false, cond, not}
+-- What a judgement says of its rules.
+use mathlib.Core.Path.{_≡_, refl, ap, sym, _∙_, subst}
+use mathlib.Core.Bool.{Bool, true, false, cond, not, _||_}
 use mathlib.Core.List.{List, [], _∷_}
+use mathlib.Core.Logic.{inl, inr}
 use Prim.Native.Nat.{ℕ, _<_}
 use native.Mathlib.Omega.{arith}
 use borrow.Author.Tests.{eqb-true, eqb-false, not-false}
-use lib.Dec.{eqb}
+use lib.Dec.{eqb, ltb}
 use lib.ListN.{length}
-use Rattle.refusals.specs.Rule.{Rule, ruled}
+use Rattle.lists.specs.Each.{Each}
+use Rattle.refusals.specs.Rule.{Rule, rule, ruled}
+use Rattle.refusals.specs.RulePromise.{FirstApplies}
 use Rattle.frame.specs.declared.direction.Direction.{Direction}
-use Rattle.refusals.proofs.Ruled.{refuses, firstNumber, ruled-append, was-refused, was-accepted, refused-with, accepted-by, pass-first}
+use Rattle.refusals.proofs.Ruled.{refuses, was-accepted, pass-first}
+use Rattle.row.specs.Profile.{zonesOf}
 use Rattle.row.specs.Table.{rowOf}
 use Rattle.row.specs.declared.profile.Profile.{Profile}
 use Rattle.row.specs.declared.table.Row.{Row}
-use Rattle.judging.specs.Judge.{hasLength, hasValue, profileZone, noRow, rowZone, isMissing, wrongLength, wrongValue, rowIn, rowRules, judgeRules, rowJudged, judgedOf}
+use Rattle.row.specs.declared.table.Found.{Found}
+use Rattle.row.specs.declared.table.Found.the-variants as found
+use Rattle.judging.specs.Judge.{hasLength, hasValue, profileZone, rowZone, wrongLength, wrongValue, byRow, rowRules, judgeRules, judgedBy, rowJudged, judgedOf}
 use Rattle.judging.specs.declared.judge.Judged.the-variants.{Legal, Refused}
 
-legal-differs : (row : Row) (n : ℕ) → Legal row ≡ Refused n → ⊥
-legal-differs row n e = let z : _≡_ {A = ℕ} 0 1 = cc in omega arith
+legal-differs : {X : Type 0} (row : Row) (n : ℕ) → Legal row ≡ Refused n → X
+legal-differs row n e = let z : _≡_ {A = ℕ} 0 1 = cc in absurd (omega arith)
 
-module _ (ls : List Rule) (row : Row) where
-  pub judged-refused : (n : ℕ) → ruled ls Refused (Legal row) ≡ Refused n → (refuses ls ≡ true) × (firstNumber ls ≡ n)
-  judged-refused n e =
-      let w = was-refused ls Refused (Legal row) (Refused n) e (legal-differs row n) in
-      (w .0, number (w .1))
-    where
-      number : Refused (firstNumber ls) ≡ Refused n → firstNumber ls ≡ n
-      number f = cc
+same-number : (m n : ℕ) → Refused m ≡ Refused n → m ≡ n
+same-number m n e = cc
 
-  pub judged-legal : (other : Row) → ruled ls Refused (Legal row) ≡ Legal other → (refuses ls ≡ false) × (other ≡ row)
-  judged-legal other e =
-      let w = was-accepted ls Refused (Legal row) (Legal other) e (λ n f. legal-differs other n (sym f)) in
-      (w .0, same (w .1))
-    where
-      same : Legal row ≡ Legal other → other ≡ row
-      same f = cc
+same-legal : (row other : Row) → Legal row ≡ Legal other → row ≡ other
+same-legal row other e = cc
 
--- the lines of a judgement, none of which applies
-pub record Passes (profile : Profile) (dir : Direction) (zone command : ℕ) (body : List ℕ) : Type 0 where
-  pub found : isMissing (rowOf profile command) ≡ false
-  pub long : hasLength dir (rowIn (rowOf profile command)) (length body) ≡ true
-  pub value : hasValue dir (rowIn (rowOf profile command)) body ≡ true
+-- one row is found
+pub same-row : (f : Found) (row other : Row) → f ≡ found.Row row → f ≡ found.Row other → row ≡ other
+same-row f row other e g = cc
 
-pub judge-passes : (profile : Profile) (dir : Direction) (zone command : ℕ) (body : List ℕ) → refuses (judgeRules profile dir zone command body) ≡ false
-    → Passes profile dir zone command body
-judge-passes profile dir zone command body e =
-    let row = rowIn (rowOf profile command) in
-    let value = wrongValue dir row body ∷ [] in
-    let long = wrongLength dir row (length body) ∷ value in
-    let zones = rowZone row zone ∷ long in
-    let missing = noRow profile command ∷ zones in
-    let one = pass-first (profileZone profile zone) missing e in
-    let two = pass-first (noRow profile command) zones (one .1) in
-    let three = pass-first (rowZone row zone) long (two .1) in
-    let four = pass-first (wrongLength dir row (length body)) value (three .1) in
-    let five = pass-first (wrongValue dir row body) [] (four .1) in
-    record { found = two .0; long = not-false _ (four .0); value = not-false _ (five .0) }
+module _ (profile : Profile) (zone command : ℕ) where
+  abbrev outside : Bool
+  outside = eqb zone 0 || ltb (zonesOf profile) zone
 
--- a judgement goes on from that of zone and row
-module _ (profile : Profile) (dir : Direction) (zone command : ℕ) (body : List ℕ) where
-  abbrev there : Row
-  there = rowIn (rowOf profile command)
+  -- zone and row are legal
+  pub record Lies (row : Row) : Type 0 where
+    pub there : rowOf profile command ≡ found.Row row
+    pub within : outside ≡ false
+    pub reaches : ltb (row .zones) zone ≡ false
 
-  abbrev more : List Rule
-  more = wrongLength dir there (length body) ∷ wrongValue dir there body ∷ []
+  -- then what goes by rules of the row goes by those behind zone and row
+  pub lies-goes : (row : Row) → Lies row → {A : Type 0} (more : Row → List Rule) (refuse : ℕ → A) (accepted : A)
+      → ruled (rowRules profile zone command more) refuse accepted ≡ ruled (more row) refuse accepted
+  lies-goes row l more refuse accepted = rw (l .there, l .within, l .reaches)
 
-  judged-on : judgedOf profile dir zone command body ≡ ruled (rowRules profile zone command) Refused (ruled more Refused (Legal there))
-  unfolding judgedOf
-  judged-on = ruled-append (rowRules profile zone command) more Refused (Legal there)
+  pub lies-refuses : (row : Row) → Lies row → (more : Row → List Rule) → refuses (rowRules profile zone command more) ≡ refuses (more row)
+  lies-refuses row l more = rw (l .there, l .within, l .reaches)
 
-  pub judge-refused : (n : ℕ) → rowJudged profile zone command ≡ Refused n → judgedOf profile dir zone command body ≡ Refused n
+  pub lies-judged : (row : Row) → Lies row → rowJudged profile zone command ≡ Legal row
   unfolding rowJudged
-  judge-refused n e =
-      let r = judged-refused (rowRules profile zone command) there n e in
-      judged-on ∙ refused-with (rowRules profile zone command) Refused _ n (r .0) (r .1)
+  lies-judged row l = rw (l .there, l .within, l .reaches)
+
+  pub judged-lies : (row : Row) → rowJudged profile zone command ≡ Legal row → Lies row
+  unfolding rowJudged
+  judged-lies row e = go outside (rowOf profile command) refl refl e
+    where
+      half : (r : Row) (t : Bool) → outside ≡ false → rowOf profile command ≡ found.Row r → ltb (r .zones) zone ≡ t → cond t (Refused 1) (Legal r) ≡ Legal row → Lies row
+      half r true p q z g = legal-differs row 1 (sym g)
+      half r false p q z g = let same = same-legal r row g in record { there = q ∙ ap found.Row same; within = p; reaches = rw (← same) z }
+
+      go : (t : Bool) (f : Found) → outside ≡ t → rowOf profile command ≡ f
+          → cond t (Refused 1) (ruled (byRow f (λ r. rowZone r zone ∷ [])) Refused (judgedBy f)) ≡ Legal row → Lies row
+      go true f p q g = legal-differs row 1 (sym g)
+      go false found.NoRow p q g = legal-differs row 2 (sym g)
+      go false (found.Row r) p q g = half r (ltb (r .zones) zone) p q refl g
+
+  pub row-refused : (n : ℕ) → rowJudged profile zone command ≡ Refused n → {A : Type 0} (more : Row → List Rule) (refuse : ℕ → A) (accepted : A)
+      → ruled (rowRules profile zone command more) refuse accepted ≡ refuse n
+  unfolding rowJudged
+  row-refused n e {A} more refuse accepted = go outside (rowOf profile command) e
+    where
+      half : (r : Row) (t : Bool) → cond t (Refused 1) (Legal r) ≡ Refused n → cond t (refuse 1) (ruled (more r) refuse accepted) ≡ refuse n
+      half r true g = ap refuse (same-number 1 n g)
+      half r false g = legal-differs r n g
+
+      go : (t : Bool) (f : Found) → cond t (Refused 1) (ruled (byRow f (λ r. rowZone r zone ∷ [])) Refused (judgedBy f)) ≡ Refused n
+          → cond t (refuse 1) (ruled (byRow f (λ r. rowZone r zone ∷ more r)) refuse accepted) ≡ refuse n
+      go true f g = ap refuse (same-number 1 n g)
+      go false found.NoRow g = ap refuse (same-number 2 n g)
+      go false (found.Row r) g = half r (ltb (r .zones) zone) g
+
+  -- rules of a row that pass
+  pub record RowPasses (more : Row → List Rule) : Type 0 where
+    pub row : Row
+    pub lies : Lies row
+    pub rest : refuses (more row) ≡ false
+
+  pub pass-row : (more : Row → List Rule) → refuses (rowRules profile zone command more) ≡ false → RowPasses more
+  pass-row more e = go (rowOf profile command) refl e
+    where
+      go : (f : Found) → rowOf profile command ≡ f → refuses (profileZone profile zone ∷ byRow f (λ r. rowZone r zone ∷ more r)) ≡ false → RowPasses more
+      go found.NoRow q g = let two = pass-first (profileZone profile zone) (rule 2 true ∷ []) g .1 in let z : _≡_ {A = ℕ} 0 1 = cc in absurd (omega arith)
+      go (found.Row r) q g =
+          let one = pass-first (profileZone profile zone) (rowZone r zone ∷ more r) g in
+          let two = pass-first (rowZone r zone) (more r) (one .1) in
+          record { row = r; lies = record { there = q; within = one .0; reaches = two .0 }; rest = two .1 }
+
+-- what is judged legal: its row, and that length and value are the row's
+pub record Passes (profile : Profile) (dir : Direction) (zone command : ℕ) (body : List ℕ) : Type 0 where
+  pub row : Row
+  pub lies : Lies profile zone command row
+  pub long : hasLength dir row (length body) ≡ true
+  pub value : hasValue dir row body ≡ true
+
+module _ (profile : Profile) (dir : Direction) (zone command : ℕ) (body : List ℕ) where
+  abbrev more : Row → List Rule
+  more row = wrongLength dir row (length body) ∷ wrongValue dir row body ∷ []
+
+  pub judge-passes : refuses (judgeRules profile dir zone command body) ≡ false → Passes profile dir zone command body
+  judge-passes e =
+      let p = pass-row profile zone command more e in
+      let length-fits = pass-first (wrongLength dir (p .row) (length body)) (wrongValue dir (p .row) body ∷ []) (p .rest) in
+      let value-fits = pass-first (wrongValue dir (p .row) body) [] (length-fits .1) in
+      record { row = p .row; lies = p .lies; long = not-false _ (length-fits .0); value = not-false _ (value-fits .0) }
+
+  pub passes-judge : (row : Row) → Lies profile zone command row → hasLength dir row (length body) ≡ true → hasValue dir row body ≡ true
+      → refuses (judgeRules profile dir zone command body) ≡ false
+  passes-judge row l long value = lies-refuses profile zone command row l more ∙ rw (long, value)
+
+  -- a judgement goes on from that of zone and row
+  pub judge-refused : (n : ℕ) → rowJudged profile zone command ≡ Refused n → judgedOf profile dir zone command body ≡ Refused n
+  unfolding judgedOf
+  judge-refused n e = row-refused profile zone command n e more Refused _
 
   pub judge-legal : (row : Row) → rowJudged profile zone command ≡ Legal row
       → judgedOf profile dir zone command body ≡ cond (not (hasLength dir row (length body))) (Refused 3) (cond (not (hasValue dir row body)) (Refused 4) (Legal row))
-  unfolding rowJudged
-  judge-legal row e =
-      let l = judged-legal (rowRules profile zone command) there row e in
-      judged-on ∙ accepted-by (rowRules profile zone command) Refused _ (l .0) ∙ rw (← l .1)
+  unfolding judgedOf
+  judge-legal row e = let l = judged-lies profile zone command row e in lies-goes profile zone command row l more Refused _ ∙ rw (l .there)
+
+  -- what is judged legal passes, in its row
+  pub judged-passes : (row : Row) → judgedOf profile dir zone command body ≡ Legal row
+      → (refuses (judgeRules profile dir zone command body) ≡ false) × (rowOf profile command ≡ found.Row row)
+  unfolding judgedOf
+  judged-passes row e =
+      let w = was-accepted (judgeRules profile dir zone command body) Refused (judgedBy (rowOf profile command)) (Legal row) e (λ n f. legal-differs row n (sym f)) in
+      (w .0, the-row (rowOf profile command) (w .1))
+    where
+      the-row : (f : Found) → judgedBy f ≡ Legal row → f ≡ found.Row row
+      the-row (found.Row r) g = ap found.Row (same-legal r row g)
+      the-row found.NoRow g = legal-differs row 2 (sym g)
+
+-- what holds of each rule's number holds of the first that applies, and of what judges data it is asked of four
+pub first-number : (P : ℕ → Type 0) (rs : List Rule) → Each (λ (r : Rule). P (r .number)) rs → (n : ℕ) → FirstApplies rs n → P n
+first-number P [] e n w = absurd w
+first-number P (r ∷ rs) e n (inl w) = subst P (w .1) (e .0)
+first-number P (r ∷ rs) e n (inr w) = first-number P rs (e .1) n (w .1)
+
+pub judge-numbers : (P : ℕ → Type 0) → P 1 → P 2 → P 3 → P 4 → (profile : Profile) (dir : Direction) (zone command : ℕ) (body : List ℕ)
+    → Each (λ (r : Rule). P (r .number)) (judgeRules profile dir zone command body)
+judge-numbers P one two three four profile dir zone command body = go (rowOf profile command)
+  where
+    go : (f : Found) → Each (λ (r : Rule). P (r .number)) (profileZone profile zone ∷ byRow f (λ row. rowZone row zone ∷ wrongLength dir row (length body) ∷ wrongValue dir row body ∷ []))
+    go found.NoRow = (one, (two, tt))
+    go (found.Row row) = (one, (one, (three, (four, tt))))
 
 -- data whose length fits are not empty
 pub length-some : (dir : Direction) (row : Row) (n : ℕ) → hasLength dir row n ≡ true → 0 < n

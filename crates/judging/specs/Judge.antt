@@ -1,14 +1,14 @@
 -- Document 01, 'Commands of the two profiles' and 'Refusal numbers', lines 1 to 4.
 use Prim.Native.Nat.{ℕ}
 use mathlib.Core.Bool.{Bool, true, false, cond, not, _&&_, _||_}
-use mathlib.Core.List.{List, [], _∷_, _++_}
+use mathlib.Core.List.{List, [], _∷_}
 use lib.Dec.{eqb, leb, ltb}
 use lib.ListN.{length, getD}
 use Rattle.refusals.specs.Rule.{Rule, rule, ruled}
 use Rattle.frame.specs.declared.direction.Direction.{Direction}
 use Rattle.frame.specs.declared.direction.Direction.the-variants.{Command, Answer}
 use Rattle.row.specs.Profile.{zonesOf}
-use Rattle.row.specs.Table.{rowOf, none}
+use Rattle.row.specs.Table.{rowOf}
 use Rattle.row.specs.declared.profile.Profile.{Profile}
 use Rattle.row.specs.declared.table.Codes.{Codes}
 use Rattle.row.specs.declared.table.Row.{Row}
@@ -62,14 +62,6 @@ profileZone profile zone = rule 1 (eqb zone 0 || ltb (zonesOf profile) zone)
 abbrev pub rowZone : Row → ℕ → Rule
 rowZone row zone = rule 1 (ltb (row .zones) zone)
 
--- 2: "command without a row in the profile"
-abbrev pub isMissing : Found → Bool
-isMissing (found.Row row) = false
-isMissing found.NoRow = true
-
-abbrev pub noRow : Profile → ℕ → Rule
-noRow profile command = rule 2 (isMissing (rowOf profile command))
-
 -- 3: "data length that the row and direction lack"; 4: "data value that the row and direction lack"
 abbrev pub wrongLength : Direction → Row → ℕ → Rule
 wrongLength dir row n = rule 3 (not (hasLength dir row n))
@@ -77,44 +69,26 @@ wrongLength dir row n = rule 3 (not (hasLength dir row n))
 abbrev pub wrongValue : Direction → Row → List ℕ → Rule
 wrongValue dir row body = rule 4 (not (hasValue dir row body))
 
--- the row of a command; where there is none, line 2 has refused it
-abbrev pub blank : Row
-blank = record {
-  place = 0;
-  profile = 0;
-  code = 0;
-  zones = 0;
-  settings = none;
-  settings2 = none;
-  answers = none;
-  answers2 = none;
-  request = false;
-  steps = false;
-  switch = false;
-  toggle = false;
-  pair = false;
-  signed = false;
-  off = false;
-  sheet = false;
-}
+-- 2: "command without a row in the profile"; a command with a row goes by rules of that row
+abbrev pub byRow : Found → (Row → List Rule) → List Rule
+byRow found.NoRow rules = rule 2 true ∷ []
+byRow (found.Row row) rules = rules row
 
-abbrev pub rowIn : Found → Row
-rowIn (found.Row row) = row
-rowIn found.NoRow = blank
+-- "Commands: zone of the profile, row, zone of the row", and then more rules of the row
+abbrev pub rowRules : Profile → ℕ → ℕ → (Row → List Rule) → List Rule
+rowRules profile zone command more = profileZone profile zone ∷ byRow (rowOf profile command) (λ row. rowZone row zone ∷ more row)
 
--- "Commands: zone of the profile, row, zone of the row, 3, 4."
-abbrev pub rowRules : Profile → ℕ → ℕ → List Rule
-rowRules profile zone command = profileZone profile zone ∷ noRow profile command ∷ rowZone (rowIn (rowOf profile command)) zone ∷ []
-
+-- "3, 4"
 abbrev pub judgeRules : Profile → Direction → ℕ → ℕ → List ℕ → List Rule
-judgeRules profile dir zone command body =
-    rowRules profile zone command
-    ++ wrongLength dir (rowIn (rowOf profile command)) (length body)
-    ∷ wrongValue dir (rowIn (rowOf profile command)) body
-    ∷ []
+judgeRules profile dir zone command body = rowRules profile zone command (λ row. wrongLength dir row (length body) ∷ wrongValue dir row body ∷ [])
+
+-- the row that was found; without one it is 2 here too
+abbrev pub judgedBy : Found → Judged
+judgedBy (found.Row row) = Legal row
+judgedBy found.NoRow = Refused 2
 
 unfoldable pub rowJudged : Profile → ℕ → ℕ → Judged
-rowJudged profile zone command = ruled (rowRules profile zone command) Refused (Legal (rowIn (rowOf profile command)))
+rowJudged profile zone command = ruled (rowRules profile zone command (λ row. [])) Refused (judgedBy (rowOf profile command))
 
 unfoldable pub judgedOf : Profile → Direction → ℕ → ℕ → List ℕ → Judged
-judgedOf profile dir zone command body = ruled (judgeRules profile dir zone command body) Refused (Legal (rowIn (rowOf profile command)))
+judgedOf profile dir zone command body = ruled (judgeRules profile dir zone command body) Refused (judgedBy (rowOf profile command))

@@ -3,6 +3,8 @@ use mathlib.Core.Path.{_≡_}
 use mathlib.Core.List.{List}
 use Prim.Native.Nat.{ℕ}
 use lib.IntN.{ℤ}
+use Rattle.lent.specs.Written.{writeAnswered, writeLeft}
+use Rattle.frame.specs.Frame.{frameOf}
 use Rattle.fields.specs.Fields.{dataOf}
 use Rattle.refusals.specs.OneAnswer.{OneAnswer}
 use Rattle.frame.specs.declared.direction.Direction.{Direction}
@@ -14,8 +16,8 @@ use Rattle.row.specs.Signed.{numberOf, codeOf, plainCodeOf}
 use Rattle.row.specs.declared.profile.Profile.{Profile}
 use Rattle.row.specs.declared.table.Row.{Row}
 use Rattle.judging.specs.Judge.{isSetting, isAnswer, isWord, hasLength, rowJudged, judgedOf}
-use Rattle.message.specs.Message.{readOf, frameRead, deniedIn}
-use Rattle.message.specs.Write.{messageAnswered, messageLeft, fieldsAnswered, fieldsLeft}
+use Rattle.message.specs.Message.{readRules, readOf, frameRead, deniedIn}
+use Rattle.message.specs.Write.{writeRules, messageFrame}
 use Rattle.message.specs.declared.read.Message.{Message}
 
 pub judge-one : (profile : Profile) (direction : Direction) (zone command : ℕ) (body : List ℕ)
@@ -34,13 +36,13 @@ pub denied-data-one : (profile : Profile) (direction : Direction) (bytes : List 
 denied-data-one profile direction bytes = one (deniedIn (frameRead profile direction bytes) (dataOf direction bytes))
 
 pub write-message-one : (profile : Profile) (buf : List ℕ) (at : ℕ) (message : Message) (body : List ℕ)
-    → OneAnswer (λ (x : Written × List ℕ). (x .0 ≡ messageAnswered profile buf at message body) × (x .1 ≡ messageLeft profile buf at message body))
-write-message-one profile buf at message body = one-lent (messageAnswered profile buf at message body) (messageLeft profile buf at message body)
+    → OneAnswer (λ (x : Written × List ℕ). (x .0 ≡ writeAnswered (writeRules profile message body) buf at (messageFrame profile message body)) × (x .1 ≡ writeLeft (writeRules profile message body) buf at (messageFrame profile message body)))
+write-message-one profile buf at message body = one-lent (writeAnswered (writeRules profile message body) buf at (messageFrame profile message body)) (writeLeft (writeRules profile message body) buf at (messageFrame profile message body))
 
 pub write-fields-one : (profile : Profile) (direction : Direction) (buf : List ℕ) (at zone command answer : ℕ) (body : List ℕ)
-    → OneAnswer (λ (x : Written × List ℕ). (x .0 ≡ fieldsAnswered profile direction buf at zone command answer body) × (x .1 ≡ fieldsLeft profile direction buf at zone command answer body))
+    → OneAnswer (λ (x : Written × List ℕ). (x .0 ≡ writeAnswered (readRules profile direction zone command answer body) buf at (frameOf direction zone command answer body)) × (x .1 ≡ writeLeft (readRules profile direction zone command answer body) buf at (frameOf direction zone command answer body)))
 write-fields-one profile direction buf at zone command answer body =
-    one-lent (fieldsAnswered profile direction buf at zone command answer body) (fieldsLeft profile direction buf at zone command answer body)
+    one-lent (writeAnswered (readRules profile direction zone command answer body) buf at (frameOf direction zone command answer body)) (writeLeft (readRules profile direction zone command answer body) buf at (frameOf direction zone command answer body))
 
 -- of the rows below
 pub profile-of-one : (letter : ℕ) → OneAnswer (λ x. x ≡ profileOf letter)

@@ -1,7 +1,7 @@
 -- From a judgement to what is said, to a message, to a frame's reading: the number of a refusal is passed on unchanged.
 use mathlib.Core.Path.{_≡_, refl, ap, sym, _∙_}
 use mathlib.Core.Bool.{Bool, true, false, cond}
-use mathlib.Core.List.{List, []}
+use mathlib.Core.List.{List, [], _∷_}
 use Prim.Native.Nat.{ℕ, _<_}
 use native.Mathlib.Omega.{arith}
 use lib.ListN.{length}
@@ -10,71 +10,81 @@ use Rattle.fields.specs.Fields.{isFrame, fieldsIn, dataIn, fieldsOf, dataOf}
 use Rattle.frame.specs.declared.direction.Direction.{Direction}
 use Rattle.fields.specs.declared.fields.Fields.{Fields}
 use Rattle.fields.specs.declared.fields.Brought.the-variants as brought
-use Rattle.refusals.proofs.Ruled.{firstNumber, was-refused, was-accepted, refused-with, accepted-by}
 use Rattle.row.specs.Table.{rowOf}
 use Rattle.row.specs.declared.profile.Profile.{Profile}
 use Rattle.row.specs.declared.table.Row.{Row}
-use Rattle.judging.specs.Judge.{rowIn, judgeRules, judgedOf}
-use Rattle.message.specs.Content.{contentOf}
-use Rattle.message.specs.Message.{said, readOf, fromReading, frameRead, deniedIn}
-use Rattle.message.specs.Computed.{saidRead, isDenied}
+use Rattle.row.specs.declared.table.Found.{Found}
+use Rattle.row.specs.declared.table.Found.the-variants as found
+use Rattle.judging.specs.Judge.{judgeRules, judgedBy, judgedOf}
+use Rattle.message.specs.Message.{said, messageIn, readOf, fromReading, frameRead, deniedIn}
+use Rattle.message.specs.Computed.{saidBy, saidRead, isDenied}
+use Rattle.judging.specs.declared.judge.Judged.{Judged}
 use Rattle.judging.specs.declared.judge.Judged.the-variants as judged
 use Rattle.message.specs.declared.read.Said.{Said}
 use Rattle.message.specs.declared.read.Message.{Message}
 use Rattle.message.specs.declared.read.SaidReading.the-variants as sayings
+use Rattle.message.specs.declared.read.Reading.{Reading}
 use Rattle.message.specs.declared.read.Reading.the-variants as reading
 use Rattle.message.specs.declared.read.FrameReading.{FrameReading}
 use Rattle.message.specs.declared.read.FrameReading.the-variants as frame
 use Rattle.message.specs.declared.read.Message.the-variants as message
-use Rattle.judging.proofs.Judges.{judged-refused, judged-legal, judge-passes, length-some}
+use Rattle.judging.proofs.Judges.{judge-passes, judged-passes, length-some}
 
-said-differs : (s : Said) (n : ℕ) → sayings.Said s ≡ sayings.Refused n → ⊥
-said-differs s n e = let z : _≡_ {A = ℕ} 0 1 = cc in omega arith
+-- what is made of an answer by rules goes by the same rules
+ruled-map : {A B : Type 0} (h : A → B) (rs : List Rule) (refuse : ℕ → A) (accepted : A) → h (ruled rs refuse accepted) ≡ ruled rs (λ n. h (refuse n)) (h accepted)
+ruled-map h [] refuse accepted = refl
+ruled-map {A} {B} h (r ∷ rs) refuse accepted = go (r .applies) (ruled-map h rs refuse accepted)
+  where
+    go : (t : Bool) → h (ruled rs refuse accepted) ≡ ruled rs (λ n. h (refuse n)) (h accepted)
+        → h (cond t (refuse (r .number)) (ruled rs refuse accepted)) ≡ cond t (h (refuse (r .number))) (ruled rs (λ n. h (refuse n)) (h accepted))
+    go true rest = refl
+    go false rest = rest
 
 module _ (profile : Profile) (dir : Direction) (zone command : ℕ) (body : List ℕ) where
-  abbrev lines : List Rule
-  lines = judgeRules profile dir zone command body
-
-  abbrev there : Row
-  there = rowIn (rowOf profile command)
-
-  pub said-refused : (n : ℕ) → judgedOf profile dir zone command body ≡ judged.Refused n → saidRead profile dir zone command body ≡ sayings.Refused n
-  unfolding judgedOf saidRead
-  said-refused n e = let r = judged-refused lines there n e in refused-with lines sayings.Refused _ n (r .0) (r .1)
-
-  pub said-legal : (row : Row) → judgedOf profile dir zone command body ≡ judged.Legal row
-      → saidRead profile dir zone command body ≡ sayings.Said (record { zone = zone; command = command; content = contentOf dir row body })
-  unfolding judgedOf saidRead
-  said-legal row e = let r = judged-legal lines there row e in accepted-by lines sayings.Refused _ (r .0) ∙ rw (← r .1)
-
   -- what is judged legal has data
   pub legal-some : (row : Row) → judgedOf profile dir zone command body ≡ judged.Legal row → 0 < length body
-  unfolding judgedOf
   legal-some row e =
-      let passed = judge-passes profile dir zone command body (judged-legal lines there row e .0) in
-      length-some dir there (length body) (passed .long)
+      let passed = judge-passes profile dir zone command body (judged-passes profile dir zone command body row e .0) in
+      length-some dir (passed .row) (length body) (passed .long)
 
-  -- a message of what is said
+  -- a message of what is said, as it is judged
   module _ (form : Said → Message) where
-    pub message-refused : (n : ℕ) → saidRead profile dir zone command body ≡ sayings.Refused n
-        → ruled lines reading.Refused (reading.Message (form (said profile dir zone command body))) ≡ reading.Refused n
-    unfolding saidRead
-    message-refused n e =
-        let r = was-refused lines sayings.Refused _ (sayings.Refused n) e (said-differs _ n) in
-        refused-with lines reading.Refused _ n (r .0) (number (r .1))
-      where
-        number : sayings.Refused (firstNumber lines) ≡ sayings.Refused n → firstNumber lines ≡ n
-        number f = cc
+    abbrev formed : Judged → Reading
+    formed (judged.Legal row) = reading.Message (form (said dir row zone command body))
+    formed (judged.Refused n) = reading.Refused n
 
-    pub message-said : (s : Said) → saidRead profile dir zone command body ≡ sayings.Said s
-        → ruled lines reading.Refused (reading.Message (form (said profile dir zone command body))) ≡ reading.Message (form s)
-    unfolding saidRead
-    message-said s e =
-        let r = was-accepted lines sayings.Refused _ (sayings.Said s) e (λ n f. said-differs s n (sym f)) in
-        accepted-by lines reading.Refused _ (r .0) ∙ ap (λ (x : Said). reading.Message (form x)) (same (r .1))
+    abbrev reads : Reading
+    reads = ruled (judgeRules profile dir zone command body) reading.Refused (messageIn (rowOf profile command) (λ row. form (said dir row zone command body)))
+
+    formed-by : (f : Found) → messageIn f (λ row. form (said dir row zone command body)) ≡ formed (judgedBy f)
+    formed-by (found.Row row) = refl
+    formed-by found.NoRow = refl
+
+    read-judged : reads ≡ formed (judgedOf profile dir zone command body)
+    unfolding judgedOf
+    read-judged =
+        ap (λ (r : Reading). ruled (judgeRules profile dir zone command body) reading.Refused r) (formed-by (rowOf profile command))
+        ∙ sym (ruled-map formed (judgeRules profile dir zone command body) judged.Refused (judgedBy (rowOf profile command)))
+
+    pub message-legal : (row : Row) → judgedOf profile dir zone command body ≡ judged.Legal row → reads ≡ reading.Message (form (said dir row zone command body))
+    message-legal row e = read-judged ∙ ap formed e
+
+    pub message-refused : (n : ℕ) → saidRead profile dir zone command body ≡ sayings.Refused n → reads ≡ reading.Refused n
+    message-refused n e = read-judged ∙ go (judgedOf profile dir zone command body) e
       where
-        same : sayings.Said (said profile dir zone command body) ≡ sayings.Said s → said profile dir zone command body ≡ s
-        same f = cc
+        go : (j : Judged) → saidBy dir zone command body j ≡ sayings.Refused n → formed j ≡ reading.Refused n
+        go (judged.Legal row) f = let z : _≡_ {A = ℕ} 0 1 = cc in absurd (omega arith)
+        go (judged.Refused k) f = cc
+
+    pub message-said : (s : Said) → saidRead profile dir zone command body ≡ sayings.Said s → reads ≡ reading.Message (form s)
+    message-said s e = read-judged ∙ go (judgedOf profile dir zone command body) e
+      where
+        same : (x : Said) → sayings.Said x ≡ sayings.Said s → x ≡ s
+        same x f = cc
+
+        go : (j : Judged) → saidBy dir zone command body j ≡ sayings.Said s → formed j ≡ reading.Message (form s)
+        go (judged.Legal row) f = ap (λ (x : Said). reading.Message (form x)) (same (said dir row zone command body) f)
+        go (judged.Refused k) f = let z : _≡_ {A = ℕ} 0 1 = cc in absurd (omega arith)
 
 -- from the bytes of a frame
 module _ (profile : Profile) (dir : Direction) (bytes : List ℕ) where

@@ -20,7 +20,7 @@ use Rattle.frame.specs.declared.capture.Kind.the-variants as kind
 use Rattle.frame.specs.declared.capture.Next.the-variants as next
 use Rattle.frame.specs.declared.direction.Direction.the-variants.{Command, Answer}
 use Rattle.lent.specs.declared.written.Written.the-variants as written
-use Rattle.refusals.proofs.Ruled.{refuses, was-accepted, accepted-by, pass-first, pass-both, pass-append, append-pass}
+use Rattle.refusals.proofs.Ruled.{refuses, was-accepted, accepted-by, pass-first, pass-both}
 use Rattle.fields.proofs.Back.{frame-promise, placed-found, placed-bytes}
 use Rattle.fields.proofs.Again.{frame-again}
 use Rattle.row.specs.Table.{rowOf}
@@ -28,15 +28,16 @@ use Rattle.row.specs.declared.profile.Profile.{Profile}
 use Rattle.row.specs.declared.table.Row.{Row}
 use Rattle.row.specs.declared.table.Found.{Found}
 use Rattle.row.specs.declared.table.Found.the-variants as found
-use Rattle.judging.specs.Judge.{isMissing, rowIn, profileZone, noRow, rowZone, wrongLength, wrongValue, rowRules, judgeRules}
+use Rattle.judging.specs.Judge.{hasLength, wrongLength, judgeRules}
+use Rattle.judging.proofs.Judges.{lies-refuses, pass-row, judge-passes, passes-judge}
 use Rattle.message.specs.Content as content
-use Rattle.message.specs.Message.{isDenial, wrongCode, said, denial, readRules, messageOf, readOf, deniedData, fromReading, frameRead}
-use Rattle.message.specs.Write.{saidRules, saidData, notDenied, messageDirection, writeRules, messageFrame, messageAnswered, messageLeft}
+use Rattle.message.specs.Message.{isDenial, wrongCode, said, denial, readRules, messageIn, messageOf, readOf, deniedData, fromReading, frameRead}
+use Rattle.message.specs.Write.{saidRules, saidIn, saidData, notDenied, messageDirection, writeRules, messageFrame}
 use Rattle.lent.specs.Written.{writeAnswered, writeLeft}
 use Rattle.lent.proofs.Writes.{write-promise, write-passed, write-fits}
 use Rattle.message.specs.Numbers.{Paper, messagePaper}
 use Rattle.message.specs.MessageRefusalPromise.{codeOn}
-use Rattle.message.specs.MessagePromise.{ReadsAs, MessagePromise}
+use Rattle.message.specs.MessagePromise.{ReadsAs, ReadsBack, MessagePromise}
 use Rattle.message.specs.declared.content.Content.{Content}
 use Rattle.message.specs.declared.content.Content.the-variants.{Request, Up, Down, On, Off, Toggle, LevellerOff, Number, Input}
 use Rattle.message.specs.declared.content.Encoded.{Encoded}
@@ -49,11 +50,6 @@ use Rattle.message.specs.declared.read.Reading.the-variants as reading
 use Rattle.message.specs.declared.read.FrameReading.the-variants as frame
 use Rattle.message.proofs.Forms.{form-promise}
 use Rattle.message.proofs.Readings.{frame-some}
-
--- a row that is not missing is found
-found-there : (f : Found) → isMissing f ≡ false → f ≡ found.Row (rowIn f)
-found-there (found.Row row) e = refl
-found-there found.NoRow e = cc
 
 -- the data of a form are as many as its size
 form-size : (dir : Direction) (row : Row) (c : Content) → content.isForm dir row c ≡ true → length (content.encodedData (content.encodedOf row c)) ≡ content.sizeOf c
@@ -73,56 +69,64 @@ form-size dir row (Number z) e = go (content.numberCode row z) e
     go NoCode f = cc
 form-size dir row (Input input on) e = refl
 
--- lines of zone and row are shared; then length and value of the data, or length and form of what is said
+-- what is said in a row, and data that say it
+record Sayable (profile : Profile) (dir : Direction) (zone command : ℕ) (c : Content) (body : List ℕ) : Type 0 where
+  row : Row
+  there : rowOf profile command ≡ found.Row row
+  judges : refuses (judgeRules profile dir zone command body) ≡ false
+  says : refuses (saidRules profile dir zone command c) ≡ false
+  means : content.contentOf dir row body ≡ c
+  load : saidData profile command c ≡ body
+
 module _ (profile : Profile) (dir : Direction) (zone command : ℕ) where
-  abbrev there : Row
-  there = rowIn (rowOf profile command)
+  abbrev more : Content → Row → List Rule
+  more c row = wrongLength dir row (content.sizeOf c) ∷ rule 4 (not (content.isForm dir row c)) ∷ []
 
-  -- the lines after the first three
-  module _ (l v : Rule) where
-    abbrev five : List Rule
-    five = profileZone profile zone ∷ noRow profile command ∷ rowZone there zone ∷ l ∷ v ∷ []
-
-    record Five : Type 0 where
-      zones : refuses (rowRules profile zone command) ≡ false
-      row : isMissing (rowOf profile command) ≡ false
-      long : l .applies ≡ false
-      value : v .applies ≡ false
-
-    parts : refuses five ≡ false → Five
-    parts e =
-        let both = pass-append (rowRules profile zone command) (l ∷ v ∷ []) e in
-        let rest = pass-first (profileZone profile zone) (noRow profile command ∷ rowZone there zone ∷ []) (both .0) .1 in
-        let four = pass-first l (v ∷ []) (both .1) in
-        record {
-          zones = both .0;
-          row = pass-first (noRow profile command) (rowZone there zone ∷ []) rest .0;
-          long = four .0;
-          value = pass-first v [] (four .1) .0;
-        }
-
-  together : (l v : Rule) → refuses (rowRules profile zone command) ≡ false → l .applies ≡ false → v .applies ≡ false
-      → refuses (five l v) ≡ false
-  together l v e f g = append-pass (rowRules profile zone command) (l ∷ v ∷ []) e (pass-both l (v ∷ []) f (pass-both v [] g refl))
+  data-in : (row : Row) (c : Content) → rowOf profile command ≡ found.Row row → saidData profile command c ≡ content.encodedData (content.encodedOf row c)
+  data-in row c e = ap (λ (f : Found). saidIn f c) e
 
   -- what is said has data that are judged legal, and say it
-  pub say-judge : (c : Content) → refuses (saidRules profile dir zone command c) ≡ false
-      → (refuses (judgeRules profile dir zone command (saidData profile command c)) ≡ false) × (content.contentOf dir there (saidData profile command c) ≡ c)
+  say-judge : (c : Content) → refuses (saidRules profile dir zone command c) ≡ false → Sayable profile dir zone command c (saidData profile command c)
   say-judge c e =
-      let p = parts (wrongLength dir there (content.sizeOf c)) (rule 4 (not (content.isForm dir there c))) e in
-      let w = form-promise .written profile command there dir c (found-there (rowOf profile command) (p .row)) (not-false _ (p .value)) (not-false _ (p .long)) in
-      let body = saidData profile command c in
-      (together (wrongLength dir there (length body)) (wrongValue dir there body) (p .zones) (rw (w .0 .long)) (rw (w .0 .value)), w .2)
+      let p = pass-row profile zone command (more c) e in
+      let long = pass-first (wrongLength dir (p .row) (content.sizeOf c)) (rule 4 (not (content.isForm dir (p .row) c)) ∷ []) (p .rest) in
+      let form = pass-first (rule 4 (not (content.isForm dir (p .row) c))) [] (long .1) in
+      let there = p .lies .there in
+      let w = form-promise .written profile command (p .row) dir c there (not-false _ (form .0)) (not-false _ (long .0)) in
+      let same = data-in (p .row) c there in
+      record {
+        row = p .row;
+        there = there;
+        judges = passes-judge profile dir zone command (saidData profile command c) (p .row) (p .lies) (rw same (w .0 .long)) (rw same (w .0 .value));
+        says = e;
+        means = ap (content.contentOf dir (p .row)) same ∙ w .2;
+        load = refl;
+      }
 
   -- data that are judged legal say something whose data they are
-  pub judge-say : (body : List ℕ) → refuses (judgeRules profile dir zone command body) ≡ false
-      → (refuses (saidRules profile dir zone command (content.contentOf dir there body)) ≡ false) × (saidData profile command (content.contentOf dir there body) ≡ body)
+  judge-say : (body : List ℕ) → refuses (judgeRules profile dir zone command body) ≡ false → (c : Content) × Sayable profile dir zone command c body
   judge-say body e =
-      let p = parts (wrongLength dir there (length body)) (wrongValue dir there body) e in
-      let c = content.contentOf dir there body in
-      let r = form-promise .read profile command there dir body (found-there (rowOf profile command) (p .row)) (record { long = not-false _ (p .long); value = not-false _ (p .value) }) in
-      let size : length body ≡ content.sizeOf c = ap length (sym (r .1)) ∙ form-size dir there c (r .0) in
-      (together (wrongLength dir there (content.sizeOf c)) (rule 4 (not (content.isForm dir there c))) (p .zones) (rw (← size) (p .long)) (rw (r .0)), r .1)
+      let p = judge-passes profile dir zone command body e in
+      let c = content.contentOf dir (p .row) body in
+      let there = p .lies .there in
+      let r = form-promise .read profile command (p .row) dir body there (record { long = p .long; value = p .value }) in
+      let size : length body ≡ content.sizeOf c = ap length (sym (r .1)) ∙ form-size dir (p .row) c (r .0) in
+      let long : hasLength dir (p .row) (content.sizeOf c) ≡ true = rw (← size) (p .long) in
+      let form = r .0 in (
+        c,
+        record {
+          row = p .row;
+          there = there;
+          judges = e;
+          says = lies-refuses profile zone command (p .row) (p .lies) (more c) ∙ rw (long, form);
+          means = refl;
+          load = data-in (p .row) c there ∙ r .1;
+        },
+      )
+
+-- the message of a row that is found
+in-row : (f : Found) (row : Row) (means : Row → Message) → f ≡ found.Row row → messageIn f means ≡ reading.Message (means row)
+in-row f row means e = ap (λ (x : Found). messageIn x means) e
 
 -- a frame of fields and data, read
 frame-reads : (profile : Profile) (dir : Direction) (zone command ac : ℕ) (body : List ℕ)
@@ -132,14 +136,14 @@ frame-reads profile dir zone command ac body =
     frame-some profile dir (frameOf dir zone command ac body) (record { zone = zone; command = command; answer = answerKept dir ac }) (b .head)
     ∙ ap (λ (l : List ℕ). fromReading (readOf profile dir zone command (answerKept dir ac) l)) (b .load)
 
--- what passes is read as the message it is
+-- what passes is read as what it is
 read-passed : (profile : Profile) (dir : Direction) (zone command ac : ℕ) (body : List ℕ) → refuses (readRules profile dir zone command ac body) ≡ false
-    → readOf profile dir zone command ac body ≡ reading.Message (messageOf profile dir zone command ac body)
+    → readOf profile dir zone command ac body ≡ messageOf profile dir zone command ac body
 unfolding readOf
 read-passed profile dir zone command ac body e = accepted-by (readRules profile dir zone command ac body) reading.Refused _ e
 
-denied-lines : (ac : ℕ) (body : List ℕ) → refuses (notDenied ac ∷ tooLong body ∷ []) ≡ false → (isDenial ac ≡ true) × (refuses (tooLong body ∷ []) ≡ false)
-denied-lines ac body e = let p = pass-first (notDenied ac) (tooLong body ∷ []) e in (not-false _ (p .0), p .1)
+denied-rules : (ac : ℕ) (body : List ℕ) → refuses (notDenied ac ∷ tooLong body ∷ []) ≡ false → (isDenial ac ≡ true) × (refuses (tooLong body ∷ []) ≡ false)
+denied-rules ac body e = let p = pass-first (notDenied ac) (tooLong body ∷ []) e in (not-false _ (p .0), p .1)
 
 module _ (profile : Profile) where
   reads : (m : Message) (body : List ℕ) → refuses (writeRules profile m body) ≡ false → frameRead profile (messageDirection m) (messageFrame profile m body) ≡ frame.Message m
@@ -147,58 +151,56 @@ module _ (profile : Profile) where
       let j = say-judge profile Command (s .zone) (s .command) (s .content) e in
       let d = saidData profile (s .command) (s .content) in
       frame-reads profile Command (s .zone) (s .command) 0 d
-      ∙ ap fromReading (read-passed profile Command (s .zone) (s .command) 0 d (j .0))
-      ∙ ap (λ (c : Content). frame.Message (message.Command (record { zone = s .zone; command = s .command; content = c }))) (j .1)
+      ∙ ap fromReading (read-passed profile Command (s .zone) (s .command) 0 d (j .judges) ∙ in-row (rowOf profile (s .command)) (j .row) _ (j .there))
+      ∙ ap (λ (c : Content). frame.Message (message.Command (record { zone = s .zone; command = s .command; content = c }))) (j .means)
   reads (message.Status s) body e =
       let j = say-judge profile Answer (s .zone) (s .command) (s .content) e in
       let d = saidData profile (s .command) (s .content) in
       frame-reads profile Answer (s .zone) (s .command) 0 d
-      ∙ ap fromReading (read-passed profile Answer (s .zone) (s .command) 0 d (j .0))
-      ∙ ap (λ (c : Content). frame.Message (message.Status (record { zone = s .zone; command = s .command; content = c }))) (j .1)
+      ∙ ap fromReading (read-passed profile Answer (s .zone) (s .command) 0 d (j .judges) ∙ in-row (rowOf profile (s .command)) (j .row) _ (j .there))
+      ∙ ap (λ (c : Content). frame.Message (message.Status (record { zone = s .zone; command = s .command; content = c }))) (j .means)
   reads (message.Denied d) body e =
-      let p = denied-lines (d .answer) body e in
-      let is : messageOf profile Answer (d .zone) (d .command) (d .answer) body ≡ message.Denied d = rw (p .0) in
+      let p = denied-rules (d .answer) body e in
+      let is : messageOf profile Answer (d .zone) (d .command) (d .answer) body ≡ reading.Message (message.Denied d) = rw (p .0) in
       frame-reads profile Answer (d .zone) (d .command) (d .answer) body
-      ∙ ap fromReading (read-passed profile Answer (d .zone) (d .command) (d .answer) body (rw (p .0, or-true) (p .1)) ∙ ap reading.Message is)
+      ∙ ap fromReading (read-passed profile Answer (d .zone) (d .command) (d .answer) body (rw (p .0, or-true) (p .1)) ∙ is)
 
-  loads : (m : Message) (body : List ℕ) → deniedData m (dataOf (messageDirection m) (messageFrame profile m body)) ≡ deniedData m body
-  loads (message.Command s) body = refl
-  loads (message.Status s) body = refl
-  loads (message.Denied d) body = frame-promise .brought Answer (d .zone) (d .command) (d .answer) body .load
+-- the frame of fields and data, written where the rules let it, reads back
+reads-back : (profile : Profile) (dir : Direction) (rules : List Rule) (buf : List ℕ) (at zone command ac : ℕ) (given : List ℕ) (m : Message) (body : List ℕ) (n : ℕ)
+    → writeAnswered rules buf at (frameOf dir zone command ac given) ≡ written.Bytes n
+    → ReadsAs profile dir (frameOf dir zone command ac given) m body
+    → ReadsBack profile dir (writeLeft rules buf at (frameOf dir zone command ac given)) at n m body
+reads-back profile dir rules buf at zone command ac given m body n e reads-so =
+    let sent = frameOf dir zone command ac given in
+    let w = write-promise rules buf at sent .there n e in
+    let long : n ≡ length sent = w .0 in
+    let room : at + length sent ≤ length buf = rw (← long) (w .1) in
+    let put : writeLeft rules buf at sent ≡ placed buf at sent = w .2 in
+    record {
+      found = rw (put, long) (placed-found dir buf at zone command ac given room);
+      back = rw (put, long, placed-bytes dir buf at zone command ac given room) reads-so;
+    }
 
-  -- the frame of a message stands in the buffer as a frame
-  stands : (m : Message) (body buf : List ℕ) (at : ℕ) → at + length (messageFrame profile m body) ≤ length buf
-      → (firstOf (eventsFrom (messageDirection m) (placed buf at (messageFrame profile m body)) at) ≡ next.Event (event at (length (messageFrame profile m body)) kind.Frame))
-      × (bytesAt (placed buf at (messageFrame profile m body)) at (length (messageFrame profile m body)) ≡ messageFrame profile m body)
-  stands (message.Command s) body buf at room =
-      let d = saidData profile (s .command) (s .content) in
-      (placed-found Command buf at (s .zone) (s .command) 0 d room, placed-bytes Command buf at (s .zone) (s .command) 0 d room)
-  stands (message.Status s) body buf at room =
-      let d = saidData profile (s .command) (s .content) in
-      (placed-found Answer buf at (s .zone) (s .command) 0 d room, placed-bytes Answer buf at (s .zone) (s .command) 0 d room)
-  stands (message.Denied d) body buf at room =
-      (placed-found Answer buf at (d .zone) (d .command) (d .answer) body room, placed-bytes Answer buf at (d .zone) (d .command) (d .answer) body room)
-
-  module _ (buf : List ℕ) (at : ℕ) (m : Message) (body : List ℕ) (n : ℕ) (e : messageAnswered profile buf at m body ≡ written.Bytes n) where
-    abbrev bytes : List ℕ
-    bytes = messageFrame profile m body
-
-    put-there : (n ≡ length bytes) × (at + length bytes ≤ length buf) × (messageLeft profile buf at m body ≡ placed buf at bytes)
-    unfolding messageAnswered messageLeft
-    put-there = let w = write-promise (writeRules profile m body) buf at bytes .there n e in (w .0, rw (← w .0) (w .1), w .2)
-
-    passed : refuses (writeRules profile m body) ≡ false
-    unfolding messageAnswered
-    passed = write-passed (writeRules profile m body) buf at bytes n e
-
-    found-again : firstOf (eventsFrom (messageDirection m) (messageLeft profile buf at m body) at) ≡ next.Event (event at n kind.Frame)
-    found-again = rw (put-there .2, put-there .0) (stands m body buf at (put-there .1) .0)
-
-    reads-again : ReadsAs profile (messageDirection m) (bytesAt (messageLeft profile buf at m body) at n) m body
-    reads-again =
-        subst (λ (l : List ℕ). ReadsAs profile (messageDirection m) l m body)
-        (sym (ap (λ (l : List ℕ). bytesAt l at n) (put-there .2) ∙ ap (λ (k : ℕ). bytesAt (placed buf at bytes) at k) (put-there .0) ∙ stands m body buf at (put-there .1) .1))
-        (record { message = reads m body passed; load = loads m body })
+message-back : (profile : Profile) (buf : List ℕ) (at : ℕ) (m : Message) (body : List ℕ) (n : ℕ)
+    → writeAnswered (writeRules profile m body) buf at (messageFrame profile m body) ≡ written.Bytes n
+    → ReadsBack profile (messageDirection m) (writeLeft (writeRules profile m body) buf at (messageFrame profile m body)) at n m body
+message-back profile buf at (message.Command s) body n e =
+    let rules = writeRules profile (message.Command s) body in
+    let d = saidData profile (s .command) (s .content) in
+    reads-back profile Command rules buf at (s .zone) (s .command) 0 d (message.Command s) body n e
+    (record { message = reads profile (message.Command s) body (write-passed rules buf at _ n e); load = refl })
+message-back profile buf at (message.Status s) body n e =
+    let rules = writeRules profile (message.Status s) body in
+    let d = saidData profile (s .command) (s .content) in
+    reads-back profile Answer rules buf at (s .zone) (s .command) 0 d (message.Status s) body n e
+    (record { message = reads profile (message.Status s) body (write-passed rules buf at _ n e); load = refl })
+message-back profile buf at (message.Denied d) body n e =
+    let rules = writeRules profile (message.Denied d) body in
+    reads-back profile Answer rules buf at (d .zone) (d .command) (d .answer) body (message.Denied d) body n e
+    (record {
+      message = reads profile (message.Denied d) body (write-passed rules buf at _ n e);
+      load = frame-promise .brought Answer (d .zone) (d .command) (d .answer) body .load;
+    })
 
 abbrev paperOf : ℕ → ℕ → ℕ → List ℕ → Paper
 paperOf zone command code body = record { zone = zone; command = command; answer = code; body = body }
@@ -206,21 +208,25 @@ paperOf zone command code body = record { zone = zone; command = command; answer
 -- what is read as a message, written again
 record Again (profile : Profile) (dir : Direction) (zone command ac : ℕ) (body : List ℕ) (m : Message) : Type 0 where
   way : messageDirection m ≡ dir
-  lines : refuses (writeRules profile m body) ≡ false
+  rules : refuses (writeRules profile m body) ≡ false
   frame : messageFrame profile m body ≡ frameOf dir zone command ac body
   paper : messagePaper profile m body ≡ paperOf zone command (codeOn dir ac) body
 
 again-of : (profile : Profile) (dir : Direction) (zone command ac : ℕ) (body : List ℕ) → refuses (readRules profile dir zone command ac body) ≡ false
-    → Again profile dir zone command ac body (messageOf profile dir zone command ac body)
+    → (m : Message) × (messageOf profile dir zone command ac body ≡ reading.Message m) × Again profile dir zone command ac body m
 unfolding frameOf
 again-of profile Command zone command ac body e =
-    let j = judge-say profile Command zone command body e in
-    record {
-      way = refl;
-      lines = j .0;
-      frame = ap (λ (l : List ℕ). frameOf Command zone command ac l) (j .1);
-      paper = ap (λ (l : List ℕ). paperOf zone command 0 l) (j .1);
-    }
+    let (c, j) = judge-say profile Command zone command body e in (
+      message.Command (record { zone = zone; command = command; content = c }),
+      in-row (rowOf profile command) (j .row) _ (j .there)
+          ∙ ap (λ (x : Content). reading.Message (message.Command (record { zone = zone; command = command; content = x }))) (j .means),
+      record {
+        way = refl;
+        rules = j .says;
+        frame = ap (λ (l : List ℕ). frameOf Command zone command ac l) (j .load);
+        paper = ap (λ (l : List ℕ). paperOf zone command 0 l) (j .load);
+      },
+    )
 again-of profile Answer zone command ac body e = go (isDenial ac) refl (pass-first (wrongCode ac) (cond (isDenial ac) (tooLong body ∷ []) (judgeRules profile Answer zone command body)) e)
   where
     zero-code : (t : Bool) → not (t || false) ≡ false → t ≡ true
@@ -228,32 +234,77 @@ again-of profile Answer zone command ac body e = go (isDenial ac) refl (pass-fir
     zero-code false f = cc
 
     go : (t : Bool) → isDenial ac ≡ t → (not (eqb ac 0x00 || isDenial ac) ≡ false) × (refuses (cond t (tooLong body ∷ []) (judgeRules profile Answer zone command body)) ≡ false)
-        → Again profile Answer zone command ac body (cond t (message.Denied (denial zone command ac)) (message.Status (said profile Answer zone command body)))
-    go true d p = record { way = refl; lines = pass-both (notDenied ac) (tooLong body ∷ []) (rw d) (p .1); frame = refl; paper = refl }
+        → (m : Message)
+        × (cond t (reading.Message (message.Denied (denial zone command ac))) (messageIn (rowOf profile command) (λ row. message.Status (said Answer row zone command body))) ≡ reading.Message m)
+        × Again profile Answer zone command ac body m
+    go true d p = (
+      message.Denied (denial zone command ac),
+      refl,
+      record { way = refl; rules = pass-both (notDenied ac) (tooLong body ∷ []) (rw d) (p .1); frame = refl; paper = refl },
+    )
     go false d p =
-        let j = judge-say profile Answer zone command body (p .1) in
-        let code : ac ≡ 0 = eqb-true ac 0 (zero-code (eqb ac 0x00) (rw d at (p .0))) in
-        record {
-          way = refl;
-          lines = j .0;
-          frame = ap (λ (l : List ℕ). frameOf Answer zone command 0 l) (j .1) ∙ ap (λ (k : ℕ). frameOf Answer zone command k body) (sym code);
-          paper = ap (λ (l : List ℕ). paperOf zone command 0 l) (j .1) ∙ ap (λ (k : ℕ). paperOf zone command k body) (sym code);
-        }
+        let (c, j) = judge-say profile Answer zone command body (p .1) in
+        let code : ac ≡ 0 = eqb-true ac 0 (zero-code (eqb ac 0x00) (rw d at (p .0))) in (
+          message.Status (record { zone = zone; command = command; content = c }),
+          in-row (rowOf profile command) (j .row) _ (j .there)
+              ∙ ap (λ (x : Content). reading.Message (message.Status (record { zone = zone; command = command; content = x }))) (j .means),
+          record {
+            way = refl;
+            rules = j .says;
+            frame = ap (λ (l : List ℕ). frameOf Answer zone command 0 l) (j .load) ∙ ap (λ (k : ℕ). frameOf Answer zone command k body) (sym code);
+            paper = ap (λ (l : List ℕ). paperOf zone command 0 l) (j .load) ∙ ap (λ (k : ℕ). paperOf zone command k body) (sym code);
+          },
+        )
+
+-- what passes is a message
+pub passed-message : (profile : Profile) (dir : Direction) (zone command ac : ℕ) (body : List ℕ) → refuses (readRules profile dir zone command ac body) ≡ false
+    → (m : Message) × (readOf profile dir zone command ac body ≡ reading.Message m) × (messageOf profile dir zone command ac body ≡ reading.Message m)
+passed-message profile dir zone command ac body e =
+    let a = again-of profile dir zone command ac body e in (a .0, read-passed profile dir zone command ac body e ∙ a .1, a .1)
+
+-- what is read as a message passes, and is written again
+was-read : (profile : Profile) (dir : Direction) (zone command ac : ℕ) (body : List ℕ) (m : Message) → readOf profile dir zone command ac body ≡ reading.Message m
+    → Again profile dir zone command ac body m
+unfolding readOf
+was-read profile dir zone command ac body m e =
+    let w = was-accepted (readRules profile dir zone command ac body) reading.Refused (messageOf profile dir zone command ac body) (reading.Message m) e differ in
+    let a = again-of profile dir zone command ac body (w .0) in
+    subst (λ (x : Message). Again profile dir zone command ac body x) (same (a .0) (sym (a .1) ∙ w .1)) (a .2)
+  where
+    differ : (n : ℕ) → reading.Refused n ≡ reading.Message m → ⊥
+    differ n f = let z : _≡_ {A = ℕ} 0 1 = cc in omega arith
+
+    same : (k : Message) → reading.Message k ≡ reading.Message m → k ≡ m
+    same k f = cc
 
 -- a message that was read has the fields that it was read from
 pub paper-of : (profile : Profile) (dir : Direction) (zone command ac : ℕ) (body : List ℕ) (m : Message) → readOf profile dir zone command ac body ≡ reading.Message m
     → messagePaper profile m body ≡ paperOf zone command (codeOn dir ac) body
-unfolding readOf
-paper-of profile dir zone command ac body m e =
-    let w =
-    was-accepted (readRules profile dir zone command ac body) reading.Refused (reading.Message (messageOf profile dir zone command ac body)) (reading.Message m) e (differ m) in
-    ap (λ (k : Message). messagePaper profile k body) (sym (same (messageOf profile dir zone command ac body) m (w .1))) ∙ again-of profile dir zone command ac body (w .0) .paper
-  where
-    differ : (k : Message) (n : ℕ) → reading.Refused n ≡ reading.Message k → ⊥
-    differ k n f = let z : _≡_ {A = ℕ} 0 1 = cc in omega arith
+paper-of profile dir zone command ac body m e = was-read profile dir zone command ac body m e .paper
 
-    same : (k l : Message) → reading.Message k ≡ reading.Message l → k ≡ l
-    same k l f = cc
+-- a command's answer code is not looked at
+read-kept : (profile : Profile) (dir : Direction) (zone command ac : ℕ) (body : List ℕ)
+    → readOf profile dir zone command (answerKept dir ac) body ≡ readOf profile dir zone command ac body
+unfolding readOf
+read-kept profile Command zone command ac body = refl
+read-kept profile Answer zone command ac body = refl
+
+fields-back : (profile : Profile) (dir : Direction) (buf : List ℕ) (at zone command ac : ℕ) (body : List ℕ) (n : ℕ)
+    → writeAnswered (readRules profile dir zone command ac body) buf at (frameOf dir zone command ac body) ≡ written.Bytes n
+    → (m : Message) × (messageOf profile dir zone command ac body ≡ reading.Message m)
+    × ReadsBack profile dir (writeLeft (readRules profile dir zone command ac body) buf at (frameOf dir zone command ac body)) at n m body
+fields-back profile dir buf at zone command ac body n e =
+    let rules = readRules profile dir zone command ac body in
+    let p = passed-message profile dir zone command ac body (write-passed rules buf at (frameOf dir zone command ac body) n e) in
+    let m = p .0 in (
+      m,
+      p .2,
+      reads-back profile dir rules buf at zone command ac body m body n e
+          (record {
+            message = frame-reads profile dir zone command ac body ∙ ap fromReading (read-kept profile dir zone command ac body ∙ p .1);
+            load = ap (λ (l : List ℕ). deniedData m l) (frame-promise .brought dir zone command ac body .load);
+          }),
+    )
 
 -- the fields and data of bytes that read as a message
 module _ (profile : Profile) (dir : Direction) (bytes : List ℕ) (m : Message) (e : frameRead profile dir bytes ≡ frame.Message m) where
@@ -277,17 +328,7 @@ module _ (profile : Profile) (dir : Direction) (bytes : List ℕ) (m : Message) 
       go false g = (cc, cc)
 
   goes : Again profile dir (f .zone) (f .command) (f .answer) body m
-  unfolding readOf
-  goes =
-      let lines = readRules profile dir (f .zone) (f .command) (f .answer) body in
-      let w = was-accepted lines reading.Refused _ (reading.Message m) (whole .1) (λ k g. differs k g) in
-      subst (λ (x : Message). Again profile dir (f .zone) (f .command) (f .answer) body x) (same (w .1)) (again-of profile dir (f .zone) (f .command) (f .answer) body (w .0))
-    where
-      differs : (k : ℕ) → reading.Refused k ≡ reading.Message m → ⊥
-      differs k g = let z : _≡_ {A = ℕ} 0 1 = cc in omega arith
-
-      same : reading.Message (messageOf profile dir (f .zone) (f .command) (f .answer) body) ≡ reading.Message m → messageOf profile dir (f .zone) (f .command) (f .answer) body ≡ m
-      same g = cc
+  goes = was-read profile dir (f .zone) (f .command) (f .answer) body m (whole .1)
 
   data-is : dataOf dir bytes ≡ body
   data-is = rw (whole .0)
@@ -298,27 +339,22 @@ module _ (profile : Profile) (dir : Direction) (bytes : List ℕ) (m : Message) 
   module _ (buf : List ℕ) (at : ℕ) (room : at + length bytes ≤ length buf) where
     put : (writeAnswered (writeRules profile m body) buf at (messageFrame profile m body) ≡ written.Bytes (length (messageFrame profile m body)))
         × (writeLeft (writeRules profile m body) buf at (messageFrame profile m body) ≡ placed buf at (messageFrame profile m body))
-    put = write-fits (writeRules profile m body) buf at (messageFrame profile m body) (goes .lines) (rw bytes-are room)
+    put = write-fits (writeRules profile m body) buf at (messageFrame profile m body) (goes .rules) (rw bytes-are room)
 
-    said-again : messageAnswered profile buf at m (dataOf dir bytes) ≡ written.Bytes (length bytes)
-    unfolding messageAnswered
+    abbrev brought : List ℕ
+    brought = dataOf dir bytes
+
+    said-again : writeAnswered (writeRules profile m brought) buf at (messageFrame profile m brought) ≡ written.Bytes (length bytes)
     said-again = rw data-is (put .0 ∙ ap (λ (l : List ℕ). written.Bytes (length l)) bytes-are)
 
-    left-again : messageLeft profile buf at m (dataOf dir bytes) ≡ placed buf at bytes
-    unfolding messageLeft
+    left-again : writeLeft (writeRules profile m brought) buf at (messageFrame profile m brought) ≡ placed buf at bytes
     left-again = rw data-is (put .1 ∙ ap (λ (l : List ℕ). placed buf at l) bytes-are)
-
--- the write of a denied message does not ask the profile
-denied-again : (profile other : Profile) (buf : List ℕ) (at : ℕ) (d : Denial) (body : List ℕ) (n : ℕ) → messageAnswered profile buf at (message.Denied d) body ≡ written.Bytes n
-    → ReadsAs other Answer (bytesAt (messageLeft profile buf at (message.Denied d) body) at n) (message.Denied d) body
-unfolding messageAnswered messageLeft
-denied-again profile other buf at d body n e = reads-again other buf at (message.Denied d) body n e
 
 pub message-promise : MessagePromise
 message-promise = record {
-  found = found-again;
-  back = reads-again;
-  denied = denied-again;
+  message = message-back;
+  fields = fields-back;
+  denied = λ profile other buf at d body. message-back other buf at (message.Denied d) body;
   way = λ profile dir bytes m e. goes profile dir bytes m e .way;
   said = said-again;
   again = left-again;

@@ -1,4 +1,4 @@
--- A write after its checks: the raw write, with the lines of the message before it.
+-- A write after its checks: the raw write, with the rules of the message before it.
 use mathlib.Core.Path.{_≡_, refl, ap, sym, _∙_}
 use mathlib.Core.Bool.{Bool, true, false, cond, not, _&&_}
 use mathlib.Core.List.{List, [], _∷_, _++_}
@@ -16,14 +16,14 @@ use Rattle.fields.proofs.Raws.{raw-short}
 use Rattle.frame.specs.declared.direction.Direction.{Direction}
 use Rattle.frame.specs.declared.direction.Direction.the-variants.{Command, Answer}
 use Rattle.lent.specs.declared.written.Written.the-variants as written
-use Rattle.refusals.proofs.Ruled.{refuses, firstNumber, ruled-append, was-refused, was-accepted, refused-with, accepted-by, pass-first}
-use Rattle.row.specs.Table.{rowOf}
+use Rattle.refusals.proofs.Ruled.{refuses, firstNumber, ruled-append, was-accepted, refused-with, accepted-by, pass-first}
 use Rattle.row.specs.declared.profile.Profile.{Profile}
 use Rattle.row.specs.declared.table.Row.{Row}
-use Rattle.judging.specs.Judge.{oneByte, hasLength, wrongLength, rowIn, rowRules, judgeRules, rowJudged}
+use Rattle.row.specs.declared.table.Found.{Found}
+use Rattle.judging.specs.Judge.{oneByte, hasLength, wrongLength, judgeRules, rowJudged}
 use Rattle.message.specs.Content.{encodedOf, encodedData, sizeOf, isForm}
 use Rattle.message.specs.Message.{isDenial, wrongCode, readRules, readOf}
-use Rattle.message.specs.Write.{saidRules, saidData}
+use Rattle.message.specs.Write.{saidRules, saidIn, saidData}
 use Rattle.lent.specs.Written.{writeAnswered, writeLeft}
 use Rattle.message.specs.declared.content.Content.{Content}
 use Rattle.message.specs.declared.content.Encoded.{Encoded}
@@ -31,9 +31,10 @@ use Rattle.message.specs.declared.content.Encoded.the-variants.{One, Two
 use Rattle.judging.specs.declared.judge.Judged.the-variants as judged
 use Rattle.message.specs.declared.read.Message.{Message}
 use Rattle.message.specs.declared.read.Reading.the-variants as reading
-use Rattle.judging.proofs.Judges.{judged-refused, judged-legal, judge-passes}
+use Rattle.message.proofs.Trip.{passed-message}
+use Rattle.judging.proofs.Judges.{Lies, lies-goes, judged-lies, row-refused, judge-passes}
 
--- lines that refuse, or pass, before the rest
+-- rules that refuse, or pass, before the rest
 module _ (ls ms : List Rule) (buf : List ℕ) (at : ℕ) (bytes : List ℕ) where
   abbrev rest : List Rule
   rest = ms ++ noRoom buf at (length bytes) ∷ []
@@ -61,28 +62,30 @@ data-short NoCode = omega arith
 
 -- what a command or a status says, judged zone and row first
 module _ (profile : Profile) (dir : Direction) (buf : List ℕ) (at zone command : ℕ) (content : Content) (bytes : List ℕ) where
-  abbrev there : Row
-  there = rowIn (rowOf profile command)
-
   abbrev more : Row → List Rule
   more row = wrongLength dir row (sizeOf content) ∷ rule 4 (not (isForm dir row content)) ∷ []
 
-  pub said-refused : (n : ℕ) → rowJudged profile zone command ≡ judged.Refused n
-      → (writeAnswered (saidRules profile dir zone command content) buf at bytes ≡ written.Refused n) × (writeLeft (saidRules profile dir zone command content) buf at bytes ≡ buf)
-  unfolding rowJudged writeAnswered writeLeft
-  said-refused n e =
-      let r = judged-refused (rowRules profile zone command) there n e in
-      refused-first (rowRules profile zone command) (more there) buf at bytes n (r .0) (r .1)
+  abbrev said-rules : List Rule
+  said-rules = saidRules profile dir zone command content
 
-  pub said-legal : (row : Row) → rowJudged profile zone command ≡ judged.Legal row
-      → (writeAnswered (saidRules profile dir zone command content) buf at bytes ≡ writeAnswered (more row) buf at bytes)
-      × (writeLeft (saidRules profile dir zone command content) buf at bytes ≡ writeLeft (more row) buf at bytes)
-      × (row ≡ there)
-  unfolding rowJudged writeAnswered writeLeft
-  said-legal row e =
-      let r = judged-legal (rowRules profile zone command) there row e in
-      let w = accepted-first (rowRules profile zone command) (more there) buf at bytes (r .0) in
-      (w .0 ∙ ap (λ (x : Row). writeAnswered (more x) buf at bytes) (sym (r .1)), w .1 ∙ ap (λ (x : Row). writeLeft (more x) buf at bytes) (sym (r .1)), r .1)
+  abbrev room : List Rule
+  room = noRoom buf at (length bytes) ∷ []
+
+  pub said-refused : (n : ℕ) → rowJudged profile zone command ≡ judged.Refused n
+      → (writeAnswered said-rules buf at bytes ≡ written.Refused n) × (writeLeft said-rules buf at bytes ≡ buf)
+  unfolding writeAnswered writeLeft
+  said-refused n e = (
+    ruled-append said-rules room written.Refused _ ∙ row-refused profile zone command n e more written.Refused _,
+    ruled-append said-rules room (λ m. buf) _ ∙ row-refused profile zone command n e more (λ m. buf) _,
+  )
+
+  pub said-legal : (row : Row) → Lies profile zone command row
+      → (writeAnswered said-rules buf at bytes ≡ writeAnswered (more row) buf at bytes) × (writeLeft said-rules buf at bytes ≡ writeLeft (more row) buf at bytes)
+  unfolding writeAnswered writeLeft
+  said-legal row l = (
+    ruled-append said-rules room written.Refused _ ∙ lies-goes profile zone command row l more written.Refused _ ∙ sym (ruled-append (more row) room written.Refused _),
+    ruled-append said-rules room (λ m. buf) _ ∙ lies-goes profile zone command row l more (λ m. buf) _ ∙ sym (ruled-append (more row) room (λ m. buf) _),
+  )
 
 -- fields and data that are read first
 pub length-few : (dir : Direction) (row : Row) (n : ℕ) → hasLength dir row n ≡ true → n ≤ 2
@@ -95,7 +98,8 @@ length-few dir row n e = go (eqb n 2) (eqb n 1) refl refl e
 
 judged-short : (profile : Profile) (dir : Direction) (zone command : ℕ) (body : List ℕ) → refuses (judgeRules profile dir zone command body) ≡ false → length body ≤ dataLimit
 judged-short profile dir zone command body e =
-    omega (arith, length-few dir (rowIn (rowOf profile command)) (length body) (judge-passes profile dir zone command body e .long))
+    let p = judge-passes profile dir zone command body e in
+    omega (arith, length-few dir (p .row) (length body) (p .long))
 
 read-short : (profile : Profile) (dir : Direction) (zone command ac : ℕ) (body : List ℕ) → refuses (readRules profile dir zone command ac body) ≡ false → length body ≤ dataLimit
 read-short profile Command zone command ac body e = judged-short profile Command zone command body e
@@ -109,25 +113,31 @@ message-differs : (m : Message) (n : ℕ) → reading.Message m ≡ reading.Refu
 message-differs m n e = let z : _≡_ {A = ℕ} 0 1 = cc in omega arith
 
 module _ (profile : Profile) (dir : Direction) (buf : List ℕ) (at zone command ac : ℕ) (body bytes : List ℕ) where
-  abbrev lines : List Rule
-  lines = readRules profile dir zone command ac body
+  abbrev rules : List Rule
+  rules = readRules profile dir zone command ac body
+
+  abbrev nine : List Rule
+  nine = noRoom buf at (length bytes) ∷ []
 
   pub fields-refused : (n : ℕ) → readOf profile dir zone command ac body ≡ reading.Refused n
-      → (writeAnswered lines buf at bytes ≡ written.Refused n) × (writeLeft lines buf at bytes ≡ buf)
+      → (writeAnswered rules buf at bytes ≡ written.Refused n) × (writeLeft rules buf at bytes ≡ buf)
   unfolding readOf writeAnswered writeLeft
-  fields-refused n e =
-      let r = was-refused lines reading.Refused _ (reading.Refused n) e (message-differs _ n) in
-      refused-first lines [] buf at bytes n (r .0) (number (r .1))
+  fields-refused n e = go (refuses rules) refl
     where
-      number : reading.Refused (firstNumber lines) ≡ reading.Refused n → firstNumber lines ≡ n
+      number : reading.Refused (firstNumber rules) ≡ reading.Refused n → firstNumber rules ≡ n
       number f = cc
 
+      go : (t : Bool) → refuses rules ≡ t
+          → (ruled (rules ++ nine) written.Refused (written.Bytes (length bytes)) ≡ written.Refused n) × (ruled (rules ++ nine) (λ k. buf) (placed buf at bytes) ≡ buf)
+      go true t = refused-first rules [] buf at bytes n t (number (sym (refused-with rules reading.Refused _ (firstNumber rules) t refl) ∙ e))
+      go false t = let p = passed-message profile dir zone command ac body t in absurd (message-differs (p .0) n (sym (p .1) ∙ e))
+
   pub fields-message : (m : Message) → readOf profile dir zone command ac body ≡ reading.Message m
-      → (writeAnswered lines buf at bytes ≡ writeAnswered [] buf at bytes) × (writeLeft lines buf at bytes ≡ writeLeft [] buf at bytes) × (length body ≤ dataLimit)
+      → (writeAnswered rules buf at bytes ≡ writeAnswered [] buf at bytes) × (writeLeft rules buf at bytes ≡ writeLeft [] buf at bytes) × (length body ≤ dataLimit)
   unfolding readOf writeAnswered writeLeft
   fields-message m e =
-      let r = was-accepted lines reading.Refused _ (reading.Message m) e (λ n f. message-differs m n (sym f)) in
-      let w = accepted-first lines [] buf at bytes (r .0) in
+      let r = was-accepted rules reading.Refused _ (reading.Message m) e (λ n f. message-differs m n (sym f)) in
+      let w = accepted-first rules [] buf at bytes (r .0) in
       (w .0, w .1, read-short profile dir zone command ac body (r .0))
 
 -- the three ends of a write that zone and row allow
@@ -135,26 +145,29 @@ module _ (profile : Profile) (dir : Direction) (buf : List ℕ) (at zone command
   abbrev message : List ℕ
   message = frameOf dir zone command 0 (saidData profile command content)
 
+  lies : Lies profile zone command row
+  lies = judged-lies profile zone command row e
+
   abbrev checks : List Rule
   checks = saidRules profile dir zone command content
 
   pub said-length : hasLength dir row (sizeOf content) ≡ false → (writeAnswered checks buf at message ≡ written.Refused 3) × (writeLeft checks buf at message ≡ buf)
   unfolding writeAnswered writeLeft
-  said-length wrong = let w = said-legal profile dir buf at zone command content message row e in (w .0 ∙ rw wrong, w .1 ∙ rw wrong)
+  said-length wrong = let w = said-legal profile dir buf at zone command content message row lies in (w .0 ∙ rw wrong, w .1 ∙ rw wrong)
 
   module _ (long : hasLength dir row (sizeOf content) ≡ true) where
     pub said-form : isForm dir row content ≡ false → (writeAnswered checks buf at message ≡ written.Refused 4) × (writeLeft checks buf at message ≡ buf)
     unfolding writeAnswered writeLeft
-    said-form wrong = let w = said-legal profile dir buf at zone command content message row e in (w .0 ∙ rw (long, wrong), w .1 ∙ rw (long, wrong))
+    said-form wrong = let w = said-legal profile dir buf at zone command content message row lies in (w .0 ∙ rw (long, wrong), w .1 ∙ rw (long, wrong))
 
     pub said-good : isForm dir row content ≡ true
         → (writeAnswered (rawRules (encodedData (encodedOf row content))) buf at (frameOf dir zone command 0 (encodedData (encodedOf row content))) ≡ writeAnswered checks buf at message)
         × (writeLeft (rawRules (encodedData (encodedOf row content))) buf at (frameOf dir zone command 0 (encodedData (encodedOf row content))) ≡ writeLeft checks buf at message)
     unfolding writeAnswered writeLeft
     said-good form =
-        let w = said-legal profile dir buf at zone command content message row e in
+        let w = said-legal profile dir buf at zone command content message row lies in
         let encoded = encodedOf row content in
-        let same : frameOf dir zone command 0 (encodedData encoded) ≡ message = ap (λ (r : Row). frameOf dir zone command 0 (encodedData (encodedOf r content))) (w .2) in (
+        let same : frameOf dir zone command 0 (encodedData encoded) ≡ message = ap (λ (f : Found). frameOf dir zone command 0 (saidIn f content)) (sym (lies .there)) in (
           raw-short buf at (encodedData encoded) (frameOf dir zone command 0 (encodedData encoded)) (data-short encoded) .0 ∙ ap (λ (l : List ℕ). writeAnswered [] buf at l) same ∙ sym (w .0 ∙ rw (long, form)),
           raw-short buf at (encodedData encoded) (frameOf dir zone command 0 (encodedData encoded)) (data-short encoded) .1 ∙ ap (λ (l : List ℕ). writeLeft [] buf at l) same ∙ sym (w .1 ∙ rw (long, form)),
         )

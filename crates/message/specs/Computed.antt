@@ -3,10 +3,9 @@
 use Prim.Native.Nat.{ℕ}
 use mathlib.Core.Bool.{Bool, true, false}
 use mathlib.Core.List.{List}
-use Rattle.refusals.specs.Rule.{ruled}
 use Rattle.frame.specs.declared.direction.Direction.{Direction}
 use Rattle.row.specs.declared.profile.Profile.{Profile}
-use Rattle.judging.specs.Judge.{judgeRules}
+use Rattle.judging.specs.Judge.{judgedOf}
 use Rattle.message.specs.Message.{said}
 use Rattle.message.specs.declared.read.Message.{Message}
 use Rattle.message.specs.declared.read.Message.the-variants as message
@@ -41,10 +40,13 @@ abbrev pub readingWritten : Reading → Written
 readingWritten (reading.Message m) = written.Refused 0
 readingWritten (reading.Refused n) = written.Refused n
 
--- what a command or a status says, where none of its lines applies
-unfoldable pub saidRead : Profile → Direction → ℕ → ℕ → List ℕ → SaidReading
-saidRead profile dir zone command body =
-    ruled (judgeRules profile dir zone command body) sayings.Refused (sayings.Said (said profile dir zone command body))
+-- what a command or a status says, as it is judged
+abbrev pub saidBy : Direction → ℕ → ℕ → List ℕ → Judged → SaidReading
+saidBy dir zone command body (judged.Legal row) = sayings.Said (said dir row zone command body)
+saidBy dir zone command body (judged.Refused n) = sayings.Refused n
+
+abbrev pub saidRead : Profile → Direction → ℕ → ℕ → List ℕ → SaidReading
+saidRead profile dir zone command body = saidBy dir zone command body (judgedOf profile dir zone command body)
 
 abbrev pub isDenialMessage : Message → Bool
 isDenialMessage (message.Command s) = false

@@ -1,9 +1,10 @@
--- What must be believed: what data say, messages read and written; then the promises. `Passed` need not be believed.
+-- What must be believed: what data say, messages read and written; then the promises. `Computed` need not be believed.
 pub mod Content
 pub mod Message
 pub mod Write
 pub mod Numbers
 pub mod OrderPromise
+pub mod MessageWritePromise
 pub mod MessageRefusalPromise
 pub mod FormPromise
 pub mod MessagePromise

@@ -10,7 +10,10 @@ use Rattle.frame.specs.declared.direction.Direction.{Direction}
 use Rattle.frame.specs.declared.direction.Direction.the-variants.{Command, Answer}
 use Rattle.row.specs.Table.{rowOf}
 use Rattle.row.specs.declared.profile.Profile.{Profile}
-use Rattle.judging.specs.Judge.{rowIn, judgeRules}
+use Rattle.row.specs.declared.table.Row.{Row}
+use Rattle.row.specs.declared.table.Found.{Found}
+use Rattle.row.specs.declared.table.Found.the-variants as found
+use Rattle.judging.specs.Judge.{judgeRules}
 use Rattle.message.specs.Content.{contentOf}
 use Rattle.message.specs.declared.read.Said.{Said}
 use Rattle.message.specs.declared.read.Denial.{Denial}
@@ -36,21 +39,28 @@ readRules profile Command zone command ac body = judgeRules profile Command zone
 readRules profile Answer zone command ac body =
     wrongCode ac ∷ cond (isDenial ac) (tooLong body ∷ []) (judgeRules profile Answer zone command body)
 
-abbrev pub said : Profile → Direction → ℕ → ℕ → List ℕ → Said
-said profile dir zone command body = record { zone = zone; command = command; content = contentOf dir (rowIn (rowOf profile command)) body }
+-- what a command or a status says, in its row
+abbrev pub said : Direction → Row → ℕ → ℕ → List ℕ → Said
+said dir row zone command body = record { zone = zone; command = command; content = contentOf dir row body }
 
 abbrev pub denial : ℕ → ℕ → ℕ → Denial
 denial zone command ac = record { zone = zone; command = command; answer = ac }
 
--- the message that they are, where none of the lines applies
-abbrev pub messageOf : Profile → Direction → ℕ → ℕ → ℕ → List ℕ → Message
-messageOf profile Command zone command ac body = message.Command (said profile Command zone command body)
+-- the message of the row that was found; without one it is 2 here too
+abbrev pub messageIn : Found → (Row → Message) → Reading
+messageIn (found.Row row) means = reading.Message (means row)
+messageIn found.NoRow means = reading.Refused 2
+
+-- the message that they are, where none of the rules applies
+abbrev pub messageOf : Profile → Direction → ℕ → ℕ → ℕ → List ℕ → Reading
+messageOf profile Command zone command ac body = messageIn (rowOf profile command) (λ row. message.Command (said Command row zone command body))
 messageOf profile Answer zone command ac body =
-    cond (isDenial ac) (message.Denied (denial zone command ac)) (message.Status (said profile Answer zone command body))
+    cond (isDenial ac) (reading.Message (message.Denied (denial zone command ac)))
+    (messageIn (rowOf profile command) (λ row. message.Status (said Answer row zone command body)))
 
 unfoldable pub readOf : Profile → Direction → ℕ → ℕ → ℕ → List ℕ → Reading
 readOf profile dir zone command ac body =
-    ruled (readRules profile dir zone command ac body) reading.Refused (reading.Message (messageOf profile dir zone command ac body))
+    ruled (readRules profile dir zone command ac body) reading.Refused (messageOf profile dir zone command ac body)
 
 -- the data of a denied message, as they came; the other messages have theirs in their content
 abbrev pub deniedData : Message → List ℕ → List ℕ

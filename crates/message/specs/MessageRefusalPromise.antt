@@ -1,16 +1,14 @@
--- Promise: a write that is refused leaves the lent bytes as they were and counts none; "A refusal returns its number and zero
--- for every other field": each answer's number, 0 where it is accepted, and its other values.
+-- Promise: "A refusal returns its number and zero for every other field": each answer's number, 0 where it is accepted, and its
+-- other values.
 use mathlib.Core.Path.{_≡_}
 use mathlib.Core.List.{List}
 use Prim.Native.Nat.{ℕ}
-use Rattle.lent.specs.Written.{writtenNumber, writtenCount}
 use Rattle.frame.specs.declared.direction.Direction.{Direction}
 use Rattle.frame.specs.declared.direction.Direction.the-variants.{Command, Answer}
 use Rattle.row.specs.Profile.{profileOf}
 use Rattle.row.specs.declared.profile.Profile.{Profile}
 use Rattle.message.specs.Message.{readOf, frameRead}
 use Rattle.message.specs.Numbers.{profileNumber, readingNumber, readingPaper, frameNumber, framePaper, zeroPaper}
-use Rattle.message.specs.Write.{messageAnswered, messageLeft, fieldsAnswered, fieldsLeft}
 use Rattle.message.specs.declared.read.Message.{Message}
 use Rattle.message.specs.declared.read.Reading.the-variants as reading
 
@@ -30,8 +28,3 @@ pub record MessageRefusalPromise : Type 0 where
       → readingPaper profile (readOf profile dir zone command ac body) body ≡ zeroPaper
   pub frame-zero : (profile : Profile) (dir : Direction) (bytes body : List ℕ) → (frameNumber (frameRead profile dir bytes) ≡ 0 → ⊥)
       → framePaper profile (frameRead profile dir bytes) body ≡ zeroPaper
-  pub message-kept : (profile : Profile) (buf : List ℕ) (at : ℕ) (m : Message) (body : List ℕ) → (writtenNumber (messageAnswered profile buf at m body) ≡ 0 → ⊥)
-      → (messageLeft profile buf at m body ≡ buf) × (writtenCount (messageAnswered profile buf at m body) ≡ 0)
-  pub fields-kept : (profile : Profile) (dir : Direction) (buf : List ℕ) (at zone command ac : ℕ) (body : List ℕ)
-      → (writtenNumber (fieldsAnswered profile dir buf at zone command ac body) ≡ 0 → ⊥)
-      → (fieldsLeft profile dir buf at zone command ac body ≡ buf) × (writtenCount (fieldsAnswered profile dir buf at zone command ac body) ≡ 0)

@@ -1,39 +1,34 @@
 -- Document 01, 'Refusal numbers': "Writing checks the same (a message written as denied: only 5, then 3 for data over 255) and then 9."
-use Prim.Native.Nat.{ℕ, _+_}
+use Prim.Native.Nat.{ℕ}
 use mathlib.Core.Bool.{not}
-use mathlib.Core.List.{List, [], _∷_, _++_}
-use lib.ListN.{length}
-use Rattle.refusals.specs.Rule.{Rule, rule, ruled}
-use Rattle.lent.specs.Written.{writeAnswered, writeLeft}
+use mathlib.Core.List.{List, [], _∷_}
+use Rattle.refusals.specs.Rule.{Rule, rule}
 use Rattle.frame.specs.Frame.{frameOf}
 use Rattle.fields.specs.Raw.{tooLong}
 use Rattle.frame.specs.declared.direction.Direction.{Direction}
 use Rattle.frame.specs.declared.direction.Direction.the-variants.{Command, Answer}
-use Rattle.lent.specs.declared.written.Written.{Written}
-use Rattle.lent.specs.declared.written.Written.the-variants.{Bytes, Refused}
 use Rattle.row.specs.Table.{rowOf}
 use Rattle.row.specs.declared.profile.Profile.{Profile}
-use Rattle.judging.specs.Judge.{wrongLength, rowIn, rowRules}
+use Rattle.row.specs.declared.table.Found.{Found}
+use Rattle.row.specs.declared.table.Found.the-variants as found
+use Rattle.judging.specs.Judge.{wrongLength, rowRules}
 use Rattle.message.specs.Content.{encodedOf, encodedData, sizeOf, isForm}
-use Rattle.message.specs.Message.{isDenial, readRules}
+use Rattle.message.specs.Message.{isDenial}
 use Rattle.message.specs.declared.content.Content.{Content}
 use Rattle.message.specs.declared.read.Message.{Message}
 use Rattle.message.specs.declared.read.Message.the-variants as message
 
--- the lines of what a command or a status says: those of its data; 4 also where the row has no such form in this direction, as
+-- the rules of what a command or a status says: those of its data; 4 also where the row has no such form in this direction, as
 -- `up` in A 37, or a number has no code
 abbrev pub saidRules : Profile → Direction → ℕ → ℕ → Content → List Rule
 saidRules profile dir zone command content =
-    rowRules profile zone command
-    ++ wrongLength dir (rowIn (rowOf profile command)) (sizeOf content)
-    ∷ rule 4 (not (isForm dir (rowIn (rowOf profile command)) content))
-    ∷ []
+    rowRules profile zone command (λ row. wrongLength dir row (sizeOf content) ∷ rule 4 (not (isForm dir row content)) ∷ [])
 
 -- 5: "answer code not 00 or 82 to 86; 00 in a message to be written as denied"
 abbrev pub notDenied : ℕ → Rule
 notDenied ac = rule 5 (not (isDenial ac))
 
--- which way a message goes, its lines, and its frame
+-- which way a message goes, its rules, and its frame
 abbrev pub messageDirection : Message → Direction
 messageDirection (message.Command s) = Command
 messageDirection (message.Status s) = Answer
@@ -44,23 +39,15 @@ writeRules profile (message.Command s) body = saidRules profile Command (s .zone
 writeRules profile (message.Status s) body = saidRules profile Answer (s .zone) (s .command) (s .content)
 writeRules profile (message.Denied d) body = notDenied (d .answer) ∷ tooLong body ∷ []
 
+-- the data of what is said, in the row that was found; without one it has none
+abbrev pub saidIn : Found → Content → List ℕ
+saidIn (found.Row row) content = encodedData (encodedOf row content)
+saidIn found.NoRow content = []
+
 abbrev pub saidData : Profile → ℕ → Content → List ℕ
-saidData profile command content = encodedData (encodedOf (rowIn (rowOf profile command)) content)
+saidData profile command content = saidIn (rowOf profile command) content
 
 abbrev pub messageFrame : Profile → Message → List ℕ → List ℕ
 messageFrame profile (message.Command s) body = frameOf Command (s .zone) (s .command) 0 (saidData profile (s .command) (s .content))
 messageFrame profile (message.Status s) body = frameOf Answer (s .zone) (s .command) 0 (saidData profile (s .command) (s .content))
 messageFrame profile (message.Denied d) body = frameOf Answer (d .zone) (d .command) (d .answer) body
-
--- a message, and fields and data that are to be a message
-unfoldable pub messageAnswered : Profile → List ℕ → ℕ → Message → List ℕ → Written
-messageAnswered profile buf at m body = writeAnswered (writeRules profile m body) buf at (messageFrame profile m body)
-
-unfoldable pub messageLeft : Profile → List ℕ → ℕ → Message → List ℕ → List ℕ
-messageLeft profile buf at m body = writeLeft (writeRules profile m body) buf at (messageFrame profile m body)
-
-unfoldable pub fieldsAnswered : Profile → Direction → List ℕ → ℕ → ℕ → ℕ → ℕ → List ℕ → Written
-fieldsAnswered profile dir buf at zone command ac body = writeAnswered (readRules profile dir zone command ac body) buf at (frameOf dir zone command ac body)
-
-unfoldable pub fieldsLeft : Profile → Direction → List ℕ → ℕ → ℕ → ℕ → ℕ → List ℕ → List ℕ
-fieldsLeft profile dir buf at zone command ac body = writeLeft (readRules profile dir zone command ac body) buf at (frameOf dir zone command ac body)

@@ -19,7 +19,8 @@ ghost use Rattle.frame.specs.Frame.{frameOf};
 ghost use Rattle.fields.specs.Raw.{tooLong, rawRules};
 ghost use Rattle.frame.specs.declared.direction.Direction.the-variants as direction;
 ghost use Rattle.message.specs.Content.{encodedData};
-ghost use Rattle.message.specs.Write.{saidRules, saidData, notDenied, messageAnswered, messageLeft, fieldsAnswered, fieldsLeft};
+ghost use Rattle.message.specs.Message.{readRules};
+ghost use Rattle.message.specs.Write.{saidRules, saidData, notDenied, writeRules, messageFrame};
 ghost use Rattle.lent.specs.Written.{writeAnswered, writeLeft};
 ghost use Rattle.message.specs.Computed.{judgedWritten, readingWritten};
 
@@ -33,8 +34,8 @@ pub fn write_message(
     message: Message,
     body: &[u8],
 ) -> Written
-    ensures answers { λ r. ⌜ r ≡ messageAnswered profile (now (buf .entry)) at message (now (body .entry)) ⌝ }
-    ensures leaves { λ _. ⌜ now (buf .exit) ≡ messageLeft profile (now (buf .entry)) at message (now (body .entry)) ⌝ }
+    ensures answers { λ r. ⌜ r ≡ writeAnswered (writeRules profile message (now (body .entry))) (now (buf .entry)) at (messageFrame profile message (now (body .entry))) ⌝ }
+    ensures leaves { λ _. ⌜ now (buf .exit) ≡ writeLeft (writeRules profile message (now (body .entry))) (now (buf .entry)) at (messageFrame profile message (now (body .entry))) ⌝ }
 {
     match message {
         Message::Command(said) => {
@@ -84,8 +85,8 @@ pub fn write_fields(
     answer: u8,
     body: &[u8],
 ) -> Written
-    ensures answers { λ r. ⌜ r ≡ fieldsAnswered profile direction (now (buf .entry)) at zone command answer (now (body .entry)) ⌝ }
-    ensures leaves { λ _. ⌜ now (buf .exit) ≡ fieldsLeft profile direction (now (buf .entry)) at zone command answer (now (body .entry)) ⌝ }
+    ensures answers { λ r. ⌜ r ≡ writeAnswered (readRules profile direction zone command answer (now (body .entry))) (now (buf .entry)) at (frameOf direction zone command answer (now (body .entry))) ⌝ }
+    ensures leaves { λ _. ⌜ now (buf .exit) ≡ writeLeft (readRules profile direction zone command answer (now (body .entry))) (now (buf .entry)) at (frameOf direction zone command answer (now (body .entry))) ⌝ }
 {
     let reading = read_message(profile, direction, zone, command, answer, body);
     let Reading::Message(_) = reading else {

@@ -17,17 +17,18 @@ use Rattle.row.specs.Profile.{letterOf}
 use Rattle.row.specs.Table.{table, rowOf}
 use Rattle.row.specs.declared.profile.Profile.{Profile}
 use Rattle.row.specs.declared.table.Row.{Row}
+use Rattle.row.specs.declared.table.Found.{Found}
 use Rattle.row.proofs.Rows.{each-found}
-use Rattle.judging.specs.Judge.{isAnswer, hasLength, hasValue, rowIn, rowJudged, judgeRules}
+use Rattle.judging.specs.Judge.{isAnswer, hasLength, hasValue, rowJudged, judgeRules}
 use Rattle.judging.specs.declared.judge.Judged.{Judged}
 use Rattle.judging.specs.declared.judge.Judged.the-variants as judged
-use Rattle.message.specs.Message.{isDenial, wrongCode, said, denial, messageOf, readRules, readOf}
+use Rattle.message.specs.Message.{isDenial, wrongCode, said, denial, messageIn, messageOf, readRules, readOf}
 use Rattle.message.specs.declared.read.Said.{Said}
 use Rattle.message.specs.declared.read.Message.{Message}
 use Rattle.message.specs.declared.read.Message.the-variants as message
 use Rattle.message.specs.declared.read.Reading.{Reading}
 use Rattle.message.specs.declared.read.Reading.the-variants as reading
-use Rattle.judging.proofs.Judges.{Passes, judge-passes}
+use Rattle.judging.proofs.Judges.{Passes, judge-passes, same-row}
 use Rattle.tracker.specs.Cell.{cellOf}
 use Rattle.tracker.specs.CellPromise.{HasCell}
 use Rattle.tracker.specs.Tracker.{knownState, isSpoilt, keptAt, keptIn}
@@ -35,9 +36,9 @@ use Rattle.tracker.specs.Feed.{madeKnown, told, answerFed}
 use Rattle.tracker.specs.FeedPromise.{Whole, answerRead, FeedPromise}
 use Rattle.tracker.specs.declared.tracker.Tracker.{Tracker}
 use Rattle.tracker.specs.declared.tracker.Kept.the-variants.{Value}
-use Rattle.tracker.proofs.Cells.{lies, within, same-cell, cell-or-none}
+use Rattle.tracker.proofs.Cells.{stands, within, same-cell, cell-or-none}
 
--- a status brings the zone and command that were fed, and none of the lines applies to it
+-- a status brings the zone and command that were fed, and none of the rules applies to it
 record Brings (profile : Profile) (zone command : ℕ) (body : List ℕ) (s : Said) : Type 0 where
   its-zone : s .zone ≡ zone
   its-command : s .command ≡ command
@@ -47,23 +48,24 @@ brings : (profile : Profile) (zone command ac : ℕ) (body : List ℕ) (s : Said
     → Brings profile zone command body s
 unfolding readOf
 brings profile zone command ac body s e =
-    let w = was-accepted (readRules profile Answer zone command ac body) reading.Refused (reading.Message (messageOf profile Answer zone command ac body)) (reading.Message (message.Status s)) e differ in
+    let w = was-accepted (readRules profile Answer zone command ac body) reading.Refused (messageOf profile Answer zone command ac body) (reading.Message (message.Status s)) e differ in
     go (isDenial ac) (w .0) (w .1)
   where
     differ : (n : ℕ) → reading.Refused n ≡ reading.Message (message.Status s) → ⊥
     differ n f = let z : _≡_ {A = ℕ} 0 1 = cc in omega arith
 
+    status : (row : Row) → reading.Message (message.Status (said Answer row zone command body)) ≡ reading.Message (message.Status s) → said Answer row zone command body ≡ s
+    status row f = cc
+
     go : (t : Bool) → refuses (wrongCode ac ∷ cond t (tooLong body ∷ []) (judgeRules profile Answer zone command body)) ≡ false
-        → reading.Message (cond t (message.Denied (denial zone command ac)) (message.Status (said profile Answer zone command body))) ≡ reading.Message (message.Status s)
+        → cond t (reading.Message (message.Denied (denial zone command ac))) (messageIn (rowOf profile command) (λ row. message.Status (said Answer row zone command body))) ≡ reading.Message (message.Status s)
         → Brings profile zone command body s
     go true r f = let z : _≡_ {A = ℕ} 0 1 = cc in absurd (omega arith)
     go false r f =
-        let same : said profile Answer zone command body ≡ s = cc in
-        record {
-          its-zone = ap (λ (x : Said). x .zone) (sym same);
-          its-command = ap (λ (x : Said). x .command) (sym same);
-          passes = judge-passes profile Answer zone command body (pass-first (wrongCode ac) (judgeRules profile Answer zone command body) r .1);
-        }
+        let passes = judge-passes profile Answer zone command body (pass-first (wrongCode ac) (judgeRules profile Answer zone command body) r .1) in
+        let means : Row → Message = λ row. message.Status (said Answer row zone command body) in
+        let same = status (passes .row) (sym (ap (λ (x : Found). messageIn x means) (passes .lies .there)) ∙ f) in
+        record { its-zone = ap (λ (x : Said). x .zone) (sym same); its-command = ap (λ (x : Said). x .command) (sym same); passes = passes }
 
 -- the data of an answer in a row that is none of pairs are one byte, which the row has as an answer
 one-long : (row : Row) (n : ℕ) → row .pair ≡ false → hasLength Answer row n ≡ true → n ≡ 1
@@ -159,11 +161,11 @@ module _ (t : Tracker) (zone command ac : ℕ) (body : List ℕ) where
       → (b : ℕ) × (body ≡ b ∷ []) × (isSpoilt row b ≡ false)
   status-byte s f row has =
       let passes = brings (t .profile) zone command ac body s f .passes in
-      let l = lies (t .profile) zone command row (has .0) in
-      let long = rw (← l .is) at (passes .long) in
-      let value = rw (← l .is) at (passes .value) in
+      let same = same-row (rowOf (t .profile) command) (passes .row) row (passes .lies .there) (stands (t .profile) zone command row (has .0) .there) in
+      let long = rw same at (passes .long) in
+      let value = rw same at (passes .value) in
       let one = one-byte row body (one-long row (length body) (has .1) long) value in
-      (one .0, one .1, each-found Unspoilt table (letterOf (t .profile)) command row unspoilt-rows (l .there) (one .0) (one .2))
+      (one .0, one .1, each-found Unspoilt table (letterOf (t .profile)) command row unspoilt-rows (stands (t .profile) zone command row (has .0) .there) (one .0) (one .2))
 
 pub feed-promise : (t : Tracker) (zone command ac : ℕ) (body : List ℕ) → FeedPromise t zone command ac body
 feed-promise t zone command ac body = record {

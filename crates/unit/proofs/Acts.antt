@@ -5,89 +5,95 @@ use mathlib.Core.List.{List, [], _∷_}
 use Prim.Native.Nat.{ℕ}
 use borrow.Author.Tests.{eqb-true, not-true}
 use lib.Dec.{eqb, leb}
-use lib.ListN.{length}
 use Rattle.refusals.specs.Rule.{Rule}
 use Rattle.fields.specs.Fields.{dataIn}
 use Rattle.frame.specs.declared.direction.Direction.the-variants.{Command}
 use Rattle.frame.proofs.Cases.{cases}
-use Rattle.refusals.proofs.Ruled.{refuses, firstNumber, refused-with, accepted-by, pass-append}
+use Rattle.refusals.proofs.Ruled.{refuses, firstNumber, refused-with, accepted-by}
 use Rattle.row.specs.Table.{table, rowOf}
 use Rattle.row.specs.declared.profile.Profile.{Profile}
 use Rattle.row.specs.declared.table.Row.{Row}
+use Rattle.row.specs.declared.table.Found.{Found}
 use Rattle.row.specs.declared.table.Found.the-variants as found
-use Rattle.judging.specs.Judge.{isSetting, isAnswer, isPair, rowIn, rowRules, judgeRules, rowJudged, wrongLength, wrongValue}
-use Rattle.message.specs.Content.{isOff, contentOf, numberCode, codeFits, isForm}
-use Rattle.message.specs.Message.{said, readOf}
-use Rattle.judging.specs.declared.judge.Judged.the-variants as judged
+use Rattle.judging.specs.Judge.{isSetting, isAnswer, isPair, judgeRules}
+use Rattle.message.specs.Content.{isOff, contentOf, encodedOf, numberCode, codeFits, isForm}
+use Rattle.message.specs.Message.{said, messageIn, readOf}
 use Rattle.message.specs.declared.content.Content.{Content}
 use Rattle.message.specs.declared.content.Content.the-variants.{Request, Up, Down, On, Off, Toggle, LevellerOff, Number, Input}
 use Rattle.message.specs.declared.content.Encoded.{Encoded}
 use Rattle.message.specs.declared.content.Encoded.the-variants.{One, Two, NoCode}
+use Rattle.message.specs.declared.read.Said.{Said}
+use Rattle.message.specs.declared.read.Message.the-variants as message
 use Rattle.message.specs.declared.read.Reading.the-variants as reading
-use Rattle.judging.proofs.Judges.{judge-passes}
+use Rattle.judging.proofs.Judges.{Lies, lies-judged, judged-lies, judge-passes, same-row}
 use Rattle.message.proofs.Forms.{form-promise}
 use Rattle.message.proofs.Tests.{both, upto, upto-at}
 use Rattle.message.proofs.Tidy.{every, row-passes}
 use Rattle.unit.specs.House.{valueAfter}
-use Rattle.unit.specs.Unit.{Setting, value, input, current, Settings, sameSetting, put, about, Done, refused, acted, doneBy, zoneIn, commandIn, heard, frameDone}
+use Rattle.unit.specs.Unit.{Setting, value, input, current, Settings, sameSetting, put, named, about, Done, refused, acted, actedIn, doneBy, zoneIn, commandIn, heard, frameDone}
 use Rattle.unit.specs.Legal.{Legal, RowIn}
 use Rattle.unit.proofs.Tests.{clash, none-of, implies, implied}
 use Rattle.unit.proofs.Houses.{well, house-promise}
-use Rattle.unit.proofs.Sets.{row-there}
 use Rattle.unit.proofs.Cells.{put-same}
 
-abbrev pub rowFor : Profile → ℕ → Row
-rowFor profile command = rowIn (rowOf profile command)
-
--- a command that none of the lines refuses: its row, and a form of that row
+-- a command that none of the rules refuses: its row, and a form of that row
 pub record Accepted (profile : Profile) (zone command : ℕ) (body : List ℕ) : Type 0 where
-  pub zones : refuses (rowRules profile zone command) ≡ false
-  pub row-in : RowIn profile zone command (rowFor profile command)
-  pub there : rowOf profile command ≡ found.Row (rowFor profile command)
-  pub form : isForm Command (rowFor profile command) (contentOf Command (rowFor profile command) body) ≡ true
+  pub row : Row
+  pub lies : Lies profile zone command row
+  pub row-in : RowIn profile zone command row
+  pub there : rowOf profile command ≡ found.Row row
+  pub form : isForm Command row (contentOf Command row body) ≡ true
 
 pub accepted : (profile : Profile) (zone command : ℕ) (body : List ℕ) → refuses (judgeRules profile Command zone command body) ≡ false → Accepted profile zone command body
-unfolding rowJudged
 accepted profile zone command body e =
-    let row = rowFor profile command in
-    let zones = pass-append (rowRules profile zone command) (wrongLength Command row (length body) ∷ wrongValue Command row body ∷ []) e .0 in
-    let row-in = accepted-by (rowRules profile zone command) judged.Refused (judged.Legal row) zones in
-    let there = row-there profile zone command row row-in .0 in
     let passes = judge-passes profile Command zone command body e in
+    let there = passes .lies .there in
     record {
-      zones = zones;
-      row-in = row-in;
+      row = passes .row;
+      lies = passes .lies;
+      row-in = lies-judged profile zone command (passes .row) (passes .lies);
       there = there;
-      form = form-promise .read profile command row Command body there (record { long = passes .long; value = passes .value }) .0;
+      form = form-promise .read profile command (passes .row) Command body there (record { long = passes .long; value = passes .value }) .0;
     }
 
 module _ (profile : Profile) (s : Settings) (bytes : List ℕ) where
-  abbrev lines : List Rule
-  lines = judgeRules profile Command (zoneIn bytes) (commandIn bytes) (dataIn Command bytes)
+  abbrev rules : List Rule
+  rules = judgeRules profile Command (zoneIn bytes) (commandIn bytes) (dataIn Command bytes)
 
-  abbrev does : Done
-  does = acted profile s (said profile Command (zoneIn bytes) (commandIn bytes) (dataIn Command bytes))
+  -- what is heard, in a row
+  abbrev hears : Row → Said
+  hears row = said Command row (zoneIn bytes) (commandIn bytes) (dataIn Command bytes)
+
+  abbrev accepts : Type 0
+  accepts = Accepted profile (zoneIn bytes) (commandIn bytes) (dataIn Command bytes)
+
+  abbrev does : Row → Done
+  does row = acted row s (hears row)
 
   pub done-refused : (n : ℕ) → heard profile bytes ≡ reading.Refused n → frameDone profile s bytes ≡ refused s (zoneIn bytes) (commandIn bytes) n
   unfolding frameDone
   done-refused n e = ap (doneBy profile s (zoneIn bytes) (commandIn bytes)) e
 
-  pub done-acted : refuses lines ≡ false → frameDone profile s bytes ≡ does
+  pub done-acted : refuses rules ≡ false → (a : accepts) → frameDone profile s bytes ≡ does (a .row)
   unfolding frameDone readOf
-  done-acted e = ap (doneBy profile s (zoneIn bytes) (commandIn bytes)) (accepted-by lines reading.Refused _ e)
+  done-acted e a =
+      ap (doneBy profile s (zoneIn bytes) (commandIn bytes))
+      (accepted-by rules reading.Refused _ e ∙ ap (λ (f : Found). messageIn f (λ row. message.Command (hears row))) (a .there))
+      ∙ ap (λ (f : Found). actedIn f s (hears (a .row))) (a .there)
 
-  is-refused : refuses lines ≡ true → heard profile bytes ≡ reading.Refused (firstNumber lines)
+  is-refused : refuses rules ≡ true → heard profile bytes ≡ reading.Refused (firstNumber rules)
   unfolding readOf
-  is-refused e = refused-with lines reading.Refused _ (firstNumber lines) e refl
+  is-refused e = refused-with rules reading.Refused _ (firstNumber rules) e refl
 
   -- what holds after a refusal, and after a command that acts, holds after any frame
-  pub either : (P : Done → Type 0) → ((n : ℕ) → P (refused s (zoneIn bytes) (commandIn bytes) n))
-      → (Accepted profile (zoneIn bytes) (commandIn bytes) (dataIn Command bytes) → P does) → P (frameDone profile s bytes)
-  either P denied acts = go (refuses lines) refl
+  pub either : (P : Done → Type 0) → ((n : ℕ) → P (refused s (zoneIn bytes) (commandIn bytes) n)) → ((a : accepts) → P (does (a .row))) → P (frameDone profile s bytes)
+  either P denied acts = go (refuses rules) refl
     where
-      go : (t : Bool) → refuses lines ≡ t → P (frameDone profile s bytes)
-      go true e = subst P (sym (done-refused (firstNumber lines) (is-refused e))) (denied (firstNumber lines))
-      go false e = subst P (sym (done-acted e)) (acts (accepted profile (zoneIn bytes) (commandIn bytes) (dataIn Command bytes) e))
+      go : (t : Bool) → refuses rules ≡ t → P (frameDone profile s bytes)
+      go true e = subst P (sym (done-refused (firstNumber rules) (is-refused e))) (denied (firstNumber rules))
+      go false e =
+          let a = accepted profile (zoneIn bytes) (commandIn bytes) (dataIn Command bytes) e in
+          subst P (sym (done-acted e a)) (acts a)
 
 -- a row of pairs has only the request and its pairs
 abbrev pairsAlone : Row → Bool
@@ -126,6 +132,14 @@ module _ (profile : Profile) (command : ℕ) (row : Row) (there : rowOf profile 
   paired-form P r p (Number z) f = no-code (numberCode row z) f
   paired-form P r p (Input i on) f = p i on (both (row .pair) (isAnswer row i) f .1)
 
+-- which cell a command is about
+module _ (row : Row) (s : Settings) (zone command : ℕ) (c : Content) where
+  pub about-pair : row .pair ≡ true → about row s zone command c ≡ input (named (encodedOf row c) (s current))
+  about-pair e = ap (λ (t : Bool). cond t (input (named (encodedOf row c) (s current))) (value zone command)) e
+
+  pub about-single : row .pair ≡ false → about row s zone command c ≡ value zone command
+  about-single e = ap (λ (t : Bool). cond t (input (named (encodedOf row c) (s current))) (value zone command)) e
+
 pub bit-small : (on : Bool) → leb (cond on 0x01 0x00) 1 ≡ true
 bit-small true = refl
 bit-small false = refl
@@ -160,25 +174,27 @@ module _ (profile : Profile) (s : Settings) (l : Legal profile s) where
 
   module _ (zone command : ℕ) (body : List ℕ) (a : Accepted profile zone command body) where
     -- the value that a command makes is legal in its row
-    pub made-legal : (c : Content) → isForm Command (rowFor profile command) c ≡ true → (row : Row) → RowIn profile zone command row → row .pair ≡ false
-        → isAnswer row (valueAfter (rowFor profile command) c (s (value zone command))) ≡ true
+    pub made-legal : (c : Content) → isForm Command (a .row) c ≡ true → (row : Row) → RowIn profile zone command row → row .pair ≡ false
+        → isAnswer row (valueAfter (a .row) c (s (value zone command))) ≡ true
     made-legal c f row there single =
-        let same : row ≡ rowFor profile command = row-there profile zone command row there .1 in
-        let alone : rowFor profile command .pair ≡ false = rw (← same) single in
-        rw same (house-promise profile command (rowFor profile command) (a .there) .legal alone (s (value zone command)) (l .rows zone command (rowFor profile command) (a .row-in) alone) c f)
+        let same : row ≡ a .row = same-row (rowOf profile command) row (a .row) (judged-lies profile zone command row there .there) (a .there) in
+        let alone : a .row .pair ≡ false = rw (← same) single in
+        rw same (house-promise profile command (a .row) (a .there) .legal alone (s (value zone command)) (l .rows zone command (a .row) (a .row-in) alone) c f)
 
     abbrev made : Content → Setting → Settings
-    made c x = put s x (valueAfter (rowFor profile command) c (s x))
+    made c x = put s x (valueAfter (a .row) c (s x))
 
-    said-legal : (c : Content) → isForm Command (rowFor profile command) c ≡ true → Legal profile (made c (about (rowFor profile command) s zone command c))
-    said-legal c f = go (rowFor profile command .pair) refl
+    said-legal : (c : Content) → isForm Command (a .row) c ≡ true → Legal profile (made c (about (a .row) s zone command c))
+    said-legal c f = go (a .row .pair) refl
       where
-        go : (t : Bool) → rowFor profile command .pair ≡ t → Legal profile (made c (about (rowFor profile command) s zone command c))
+        go : (t : Bool) → a .row .pair ≡ t → Legal profile (made c (about (a .row) s zone command c))
         go true e =
-            paired-form profile command (rowFor profile command) (a .there) e (λ c. Legal profile (made c (about (rowFor profile command) s zone command c)))
-            (subst (Legal profile) (sym (put-same s (about (rowFor profile command) s zone command Request))) l)
-            (λ i on known. rw e (put-input i (cond on 0x01 0x00) (bit-small on))) c f
-        go false e = rw e (put-value zone command (valueAfter (rowFor profile command) c (s (value zone command))) (made-legal c f))
+            paired-form profile command (a .row) (a .there) e (λ c. Legal profile (made c (about (a .row) s zone command c)))
+            (subst (Legal profile) (sym (put-same s (about (a .row) s zone command Request))) l)
+            (λ i on known. subst (λ (x : Setting). Legal profile (made (Input i on) x)) (sym (about-pair (a .row) s zone command (Input i on) e)) (put-input i (cond on 0x01 0x00) (bit-small on))) c f
+        go false e =
+            subst (λ (x : Setting). Legal profile (made c x)) (sym (about-single (a .row) s zone command c e))
+            (put-value zone command (valueAfter (a .row) c (s (value zone command))) (made-legal c f))
 
 pub frame-legal : (profile : Profile) (s : Settings) (bytes : List ℕ) → Legal profile s → Legal profile (frameDone profile s bytes .settings)
 frame-legal profile s bytes l =
@@ -191,6 +207,5 @@ not-current row s zone command c = cases (λ (x : Setting). sameSetting x curren
 
 pub frame-now : (profile : Profile) (s : Settings) (bytes : List ℕ) → frameDone profile s bytes .settings current ≡ s current
 frame-now profile s bytes =
-    let row = rowFor profile (commandIn bytes) in
     either profile s bytes (λ (d : Done). d .settings current ≡ s current) (λ n. refl)
-    (λ a. rw (not-current row s (zoneIn bytes) (commandIn bytes) (contentOf Command row (dataIn Command bytes))))
+    (λ a. rw (not-current (a .row) s (zoneIn bytes) (commandIn bytes) (contentOf Command (a .row) (dataIn Command bytes))))

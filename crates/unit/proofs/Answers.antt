@@ -8,23 +8,24 @@ use native.Mathlib.Omega.{arith}
 use borrow.Author.Tests.{leb-true}
 use lib.Dec.{eqb, leb}
 use lib.ListN.{length, getD}
-use Rattle.refusals.specs.Rule.{Rule}
 use Rattle.frame.specs.Frame.{frameOf}
 use Rattle.fields.specs.Fields.{dataIn}
-use Rattle.refusals.specs.RulePromise.{FirstApplies}
 use Rattle.frame.specs.declared.direction.Direction.the-variants.{Command, Answer}
 use Rattle.fields.proofs.Back.{frame-promise}
 use Rattle.frame.proofs.Cases.{cases}
-use Rattle.refusals.proofs.Ruled.{was-accepted, accepted-by, append-pass, pass-both}
+use Rattle.refusals.proofs.Ruled.{was-accepted, accepted-by}
 use Rattle.row.specs.declared.profile.Profile.{Profile}
 use Rattle.row.specs.declared.table.Row.{Row}
-use Rattle.judging.specs.Judge.{isAnswer, isPair, rowRules, judgeRules, wrongLength, wrongValue}
+use Rattle.row.specs.declared.table.Found.{Found}
+use Rattle.judging.specs.Judge.{isAnswer, isPair, judgeRules}
 use Rattle.message.specs.Content.{contentOf, isForm}
-use Rattle.message.specs.Message.{said, readRules, readOf, fromReading, frameRead}
+use Rattle.message.specs.Message.{said, messageIn, messageOf, readRules, readOf, fromReading, frameRead}
 use Rattle.message.specs.declared.content.Content.{Content}
+use Rattle.message.specs.declared.content.Content.the-variants.{Request, Input}
 use Rattle.message.specs.declared.read.Said.{Said}
 use Rattle.message.specs.declared.read.Message.the-variants as message
 use Rattle.message.specs.declared.read.Reading.the-variants as reading
+use Rattle.judging.proofs.Judges.{first-number, judge-numbers, passes-judge}
 use Rattle.message.proofs.Order.{order-promise}
 use Rattle.message.proofs.Readings.{frame-some}
 use Rattle.message.specs.FormPromise.{LegalData}
@@ -38,7 +39,7 @@ use Rattle.unit.specs.Sending.{Bytes}
 use Rattle.unit.specs.UnitPromise.{Told, Denied, DonePromise}
 use Rattle.unit.proofs.Cells.{cell-self}
 use Rattle.unit.proofs.Houses.{well}
-use Rattle.unit.proofs.Acts.{either, bit-small, paired-form, rowFor, Accepted, accepted, done-refused, done-acted, made-legal, frame-legal, frame-now}
+use Rattle.unit.proofs.Acts.{either, about-pair, about-single, bit-small, paired-form, Accepted, accepted, done-refused, done-acted, made-legal, frame-legal, frame-now}
 
 -- an answer's frame reads as its fields do
 pub answer-reads : (profile : Profile) (zone command ac : ℕ) (body : List ℕ)
@@ -59,22 +60,17 @@ denied-reads profile zone command n =
     Denies ac = readOf profile Answer zone command ac [] ≡ reading.Message (message.Denied (record { zone = zone; command = command; answer = ac }))
 
 -- a command is refused with one of the four numbers
-first-of : (P : ℕ → Type 0) (ls : List Rule) → Each (λ (x : Rule). P (x .number)) ls → (n : ℕ) → FirstApplies ls n → P n
-first-of P [] e n w = absurd w
-first-of P (x ∷ ls) e n (inl w) = subst P (w .1) (e .0)
-first-of P (x ∷ ls) e n (inr w) = first-of P ls (e .1) n (w .1)
-
 four : (profile : Profile) (zone command : ℕ) (body : List ℕ) (n : ℕ) → readOf profile Command zone command 0 body ≡ reading.Refused n
     → (n ≡ 1) ⊎ (n ≡ 2) ⊎ (n ≡ 3) ⊎ (n ≡ 4)
 four profile zone command body n e =
-    first-of (λ k. (k ≡ 1) ⊎ (k ≡ 2) ⊎ (k ≡ 3) ⊎ (k ≡ 4)) (judgeRules profile Command zone command body)
-    (inl refl, (inr (inl refl), (inl refl, (inr (inr (inl refl)), (inr (inr (inr refl)), tt))))) n
+    first-number (λ k. (k ≡ 1) ⊎ (k ≡ 2) ⊎ (k ≡ 3) ⊎ (k ≡ 4)) (judgeRules profile Command zone command body)
+    (judge-numbers (λ k. (k ≡ 1) ⊎ (k ≡ 2) ⊎ (k ≡ 3) ⊎ (k ≡ 4)) (inl refl) (inr (inl refl)) (inr (inr (inl refl))) (inr (inr (inr refl))) profile Command zone command body) n
     (order-promise profile Command zone command 0 body .applies n e)
 
 -- a command that was accepted, at legal settings
 module _ (profile : Profile) (s : Settings) (l : Legal profile s) (z k : ℕ) (d : List ℕ) (a : Accepted profile z k d) where
   abbrev r : Row
-  r = rowFor profile k
+  r = a .row
 
   abbrev x : Content → Setting
   x c = about r s z k c
@@ -97,17 +93,21 @@ module _ (profile : Profile) (s : Settings) (l : Legal profile s) (z k : ℕ) (d
       go : (t : Bool) → r .pair ≡ t → Shows (x c) (valueAfter r c (s (x c)))
       go true e =
           paired-form profile k r (a .there) e (λ c. Shows (x c) (valueAfter r c (s (x c))))
-          (rw e (shows-pair (s current) (s (input (s current))) e (l .inputs z k r (a .row-in) e (s current) (l .now z k r (a .row-in) e))))
-          (λ i on known. rw e (shows-pair i (cond on 0x01 0x00) e (rw (e, bit-small on, known)))) c f
-      go false e = rw e (shows-single (valueAfter r c (s (value z k))) e (made-legal profile s l z k d a c f r (a .row-in) e))
+          (subst (λ (y : Setting). Shows y (valueAfter r Request (s y))) (sym (about-pair r s z k Request e))
+          (shows-pair (s current) (s (input (s current))) e (l .inputs z k r (a .row-in) e (s current) (l .now z k r (a .row-in) e))))
+          (λ i on known.
+          subst (λ (y : Setting). Shows y (valueAfter r (Input i on) (s y))) (sym (about-pair r s z k (Input i on) e))
+          (shows-pair i (cond on 0x01 0x00) e (cc (bit-small on)))) c f
+      go false e =
+          subst (λ (y : Setting). Shows y (valueAfter r c (s y))) (sym (about-single r s z k c e))
+          (shows-single (valueAfter r c (s (value z k))) e (made-legal profile s l z k d a c f r (a .row-in) e))
 
   -- legal data of an answer are read as a status
-  status-reads : (b : List ℕ) → LegalData Answer r b → readOf profile Answer z k 0 b ≡ reading.Message (message.Status (said profile Answer z k b))
+  status-reads : (b : List ℕ) → LegalData Answer r b → readOf profile Answer z k 0 b ≡ reading.Message (message.Status (said Answer r z k b))
   unfolding readOf
   status-reads b h =
-      let data-pass = pass-both (wrongLength Answer r (length b)) (wrongValue Answer r b ∷ []) (rw (h .long)) (pass-both (wrongValue Answer r b) [] (rw (h .value)) refl) in
-      let pass = append-pass (rowRules profile z k) (wrongLength Answer r (length b) ∷ wrongValue Answer r b ∷ []) (a .zones) data-pass in
-      accepted-by (readRules profile Answer z k 0 b) reading.Refused _ pass
+      let pass = passes-judge profile Answer z k b r (a .lies) (h .long) (h .value) in
+      accepted-by (readRules profile Answer z k 0 b) reading.Refused _ pass ∙ ap (λ (f : Found). messageIn f (λ row. message.Status (said Answer row z k b))) (a .there)
 
   abbrev c : Content
   c = contentOf Command r d
@@ -123,15 +123,17 @@ module _ (profile : Profile) (s : Settings) (l : Legal profile s) (z k : ℕ) (d
   data-legal = rw held (shows c (a .form) .0)
 
   -- the answer's data read as a status, and which cell they show
-  pub reads-said : readOf profile Answer z k 0 (shown (x c) (later (x c))) ≡ reading.Message (message.Status (said profile Answer z k (shown (x c) (later (x c)))))
+  pub reads-said : readOf profile Answer z k 0 (shown (x c) (later (x c))) ≡ reading.Message (message.Status (said Answer r z k (shown (x c) (later (x c)))))
   reads-said = status-reads (shown (x c) (later (x c))) data-legal
 
   pub which-cell : (x c ≡ value z k) ⊎ ((i : ℕ) × (x c ≡ input i))
   unfolding Shows
   which-cell = shows c (a .form) .1
 
-  told-said : Told profile (said profile Command z k d) (acted profile s (said profile Command z k d))
+  told-said : Told profile (said Command r z k d) (acted r s (said Command r z k d))
   told-said = record {
+    row = r;
+    there = a .there;
     cell = x c;
     which = which-cell;
     shows = refl;
@@ -166,9 +168,11 @@ module _ (profile : Profile) (s : Settings) (bytes : List ℕ) where
       let z = zoneIn bytes in
       let k = commandIn bytes in
       let d = dataIn Command bytes in
-      let w = was-accepted (judgeRules profile Command z k d) reading.Refused (reading.Message (message.Command (said profile Command z k d))) (reading.Message (message.Command c)) e differ in
-      subst (λ (y : Said). Told profile y (frameDone profile s bytes)) (same (w .1))
-      (subst (Told profile (said profile Command z k d)) (sym (done-acted profile s bytes (w .0))) (told-said profile s l z k d (accepted profile z k d (w .0))))
+      let w = was-accepted (judgeRules profile Command z k d) reading.Refused (messageOf profile Command z k 0 d) (reading.Message (message.Command c)) e differ in
+      let a = accepted profile z k d (w .0) in
+      let means = ap (λ (f : Found). messageIn f (λ row. message.Command (said Command row z k d))) (a .there) in
+      subst (λ (y : Said). Told profile y (frameDone profile s bytes)) (same (sym means ∙ w .1))
+      (subst (Told profile (said Command (a .row) z k d)) (sym (done-acted profile s bytes (w .0) a)) (told-said profile s l z k d a))
     where
       differ : (n : ℕ) → reading.Refused n ≡ reading.Message (message.Command c) → ⊥
       differ n f = let y : _≡_ {A = ℕ} 0 1 = cc in omega arith

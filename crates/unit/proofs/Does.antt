@@ -10,12 +10,11 @@ use Rattle.row.specs.declared.profile.Profile.{Profile}
 use Rattle.row.specs.declared.table.Row.{Row}
 use Rattle.row.specs.declared.table.Found.{Found}
 use Rattle.row.specs.declared.table.Found.the-variants as found
-use Rattle.judging.specs.Judge.{rowIn}
 use Rattle.message.specs.declared.read.Said.{Said}
 use Rattle.message.specs.declared.read.Message.the-variants as message
 use Rattle.message.specs.declared.read.Reading.the-variants as reading
 use Rattle.unit.specs.House.{valueAfter}
-use Rattle.unit.specs.Unit.{Setting, value, input, current, Settings, put, Unit, shown, about, Done, doneBy, byteDone, zoneIn, commandIn, heard, frameDone, replies}
+use Rattle.unit.specs.Unit.{Setting, value, input, current, Settings, put, Unit, shown, about, Done, actedIn, doneBy, byteDone, zoneIn, commandIn, heard, frameDone, replies}
 use Rattle.unit.specs.UnitPromise.{ActPromise, BytePromise}
 use Rattle.unit.proofs.Cells.{cell-self, put-same}
 
@@ -31,7 +30,7 @@ module _ (profile : Profile) (s : Settings) (bytes : List ℕ) (c : Said) (h : h
   unfolding frameDone
   acts =
       ap (doneBy profile s (zoneIn bytes) (commandIn bytes)) h
-      ∙ ap (λ (f : Found). does (rowIn f) (about (rowIn f) s (c .zone) (c .command) (c .content))) there
+      ∙ ap (λ (f : Found). actedIn f s c) there
 
   -- about this cell, with this value then
   at-cell : (x : Setting) (v : ℕ) → about row s (c .zone) (c .command) (c .content) ≡ x → valueAfter row (c .content) (s x) ≡ v

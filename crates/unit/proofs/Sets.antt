@@ -7,13 +7,12 @@ use borrow.Author.Tests.{not-true}
 use lib.Dec.{eqb}
 use Rattle.frame.specs.Frame.{frameOf}
 use Rattle.frame.specs.declared.direction.Direction.the-variants.{Command, Answer}
-use Rattle.refusals.proofs.Ruled.{pass-first}
 use Rattle.row.specs.Table.{table, rowOf}
 use Rattle.row.specs.declared.profile.Profile.{Profile}
 use Rattle.row.specs.declared.table.Row.{Row}
 use Rattle.row.specs.declared.table.Found.{Found}
 use Rattle.row.specs.declared.table.Found.the-variants as found
-use Rattle.judging.specs.Judge.{isSetting, isMissing, rowIn, profileZone, noRow, rowZone, rowRules, rowJudged, judgedOf}
+use Rattle.judging.specs.Judge.{isSetting, rowJudged, judgedOf}
 use Rattle.message.specs.Content.{contentOf}
 use Rattle.message.specs.Message.{readOf}
 use Rattle.judging.specs.declared.judge.Judged.{Judged}
@@ -21,34 +20,20 @@ use Rattle.judging.specs.declared.judge.Judged.the-variants as judged
 use Rattle.message.specs.declared.content.Content.{Content}
 use Rattle.message.specs.declared.read.Message.the-variants as message
 use Rattle.message.specs.declared.read.Reading.the-variants as reading
-use Rattle.judging.proofs.Judges.{judged-legal, judge-legal}
-use Rattle.message.proofs.Readings.{said-legal, message-said}
+use Rattle.judging.proofs.Judges.{judged-lies, judge-legal}
+use Rattle.message.proofs.Readings.{message-legal}
 use Rattle.message.proofs.Tests.{both}
 use Rattle.message.proofs.Tidy.{every, row-passes}
 use Rattle.sheet.specs.Line.{legalIn, isLegal}
 use Rattle.sheetfile.specs.Run.{lineFrame}
 use Rattle.sheet.specs.declared.line.Line.{Line}
 use Rattle.unit.specs.House.{isNotCalculated, valueAfter}
-use Rattle.unit.specs.Unit.{Setting, value, Settings, put, about, shown, Done, doneBy, frameDone}
+use Rattle.unit.specs.Unit.{Setting, value, Settings, put, about, shown, Done, actedIn, doneBy, frameDone}
 use Rattle.unit.specs.Sending.{settingOf}
 use Rattle.unit.specs.UnitPromise.{LinePromise}
 use Rattle.unit.proofs.Tests.{clash, implies, implied}
 use Rattle.unit.proofs.Cells.{cell-self}
 use Rattle.unit.proofs.Houses.{house-promise}
-
--- the row that was found for a zone and command
-found-there : (f : Found) → isMissing f ≡ false → f ≡ found.Row (rowIn f)
-found-there (found.Row row) e = refl
-found-there found.NoRow e = clash (sym e)
-
-pub row-there : (profile : Profile) (zone command : ℕ) (row : Row) → rowJudged profile zone command ≡ judged.Legal row
-    → (rowOf profile command ≡ found.Row row) × (row ≡ rowIn (rowOf profile command))
-unfolding rowJudged
-row-there profile zone command row e =
-    let is = judged-legal (rowRules profile zone command) (rowIn (rowOf profile command)) row e in
-    let rest = pass-first (profileZone profile zone) (noRow profile command ∷ rowZone (rowIn (rowOf profile command)) zone ∷ []) (is .0) .1 in
-    let here = pass-first (noRow profile command) (rowZone (rowIn (rowOf profile command)) zone ∷ []) rest .0 in
-    (found-there (rowOf profile command) here ∙ ap found.Row (sym (is .1)), is .1)
 
 -- neither room EQ nor the row of pairs is a sheet row
 abbrev plain : Row → Bool
@@ -81,7 +66,7 @@ module _ (profile : Profile) (l : Line) (legal : isLegal profile l ≡ true) whe
   row = w .row
 
   there : rowOf profile (l .command) ≡ found.Row row
-  there = row-there profile (l .zone) (l .command) row (w .judged) .0
+  there = judged-lies profile (l .zone) (l .command) row (w .judged) .there
 
   abbrev says : Content
   says = contentOf Command row (l .value ∷ [])
@@ -92,9 +77,7 @@ module _ (profile : Profile) (l : Line) (legal : isLegal profile l ≡ true) whe
   -- the frame is read as the command that sets the value
   pub reads : readOf profile Command (l .zone) (l .command) 0 (l .value ∷ []) ≡ reading.Message (message.Command (record { zone = l .zone; command = l .command; content = says }))
   unfolding readOf
-  reads =
-      message-said profile Command (l .zone) (l .command) (l .value ∷ []) message.Command _
-      (said-legal profile Command (l .zone) (l .command) (l .value ∷ []) row judged-so)
+  reads = message-legal profile Command (l .zone) (l .command) (l .value ∷ []) message.Command row judged-so
 
   is-plain : (row .pair ≡ false) × (eqb (row .code) 0x37 ≡ false)
   is-plain =
@@ -120,7 +103,7 @@ module _ (profile : Profile) (l : Line) (legal : isLegal profile l ≡ true) whe
   unfolding frameDone frameOf
   frame-does s =
       ap (doneBy profile s (l .zone) (l .command)) reads
-      ∙ ap (λ (r : Row). does r s (about r s (l .zone) (l .command) says)) (sym (row-there profile (l .zone) (l .command) row (w .judged) .1))
+      ∙ ap (λ (f : Found). actedIn f s (record { zone = l .zone; command = l .command; content = says })) there
       ∙ ap (does row s) (about-cell s)
 
   frame-sets : (s : Settings) → frameDone profile s (lineFrame l) .settings ≡ put s (settingOf l) (l .value)

@@ -42,7 +42,7 @@ use Rattle.unit.specs.Sending as sending
 use Rattle.lists.specs.Each.{Each}
 use Rattle.lists.proofs.Each.{each-map}
 use Rattle.unit.specs.TruthPromise.{tracked as tracked-by, TruthPromise}
-use Rattle.unit.proofs.Acts.{either, rowFor, Accepted}
+use Rattle.unit.proofs.Acts.{either, Accepted}
 use Rattle.unit.proofs.Answers.{denied-reads, reads-said, which-cell}
 use Rattle.unit.proofs.Streams.{by-frame, unit-promise}
 use Rattle.tracker.proofs.Frames.{brought-none, brought-one, brought-behind}
@@ -175,12 +175,12 @@ module _ (profile : Profile) (s : Settings) (legal : Legal profile s) (t : Track
       let read = ap (λ (p : Profile). readOf p Answer z k (refusalCode n) []) (fit .0) ∙ denied-reads profile z k n in
       subst (λ (y : Tracker). True y s) (sym (one-fed z k (refusalCode n) [] ∙ feed-promise t z k (refusalCode n) [] .denied _ read)) true-before
 
-  acted-true : Accepted profile (zoneIn bytes) (commandIn bytes) (dataIn Command bytes) → Heard (acted profile s (said profile Command (zoneIn bytes) (commandIn bytes) (dataIn Command bytes)))
+  acted-true : (a : Accepted profile (zoneIn bytes) (commandIn bytes) (dataIn Command bytes)) → Heard (acted (a .row) s (said Command (a .row) (zoneIn bytes) (commandIn bytes) (dataIn Command bytes)))
   acted-true a =
       let z = zoneIn bytes in
       let k = commandIn bytes in
       let d = dataIn Command bytes in
-      let row = rowFor profile k in
+      let row = a .row in
       let c = contentOf Command row d in
       let x = about row s z k c in
       let v = valueAfter row c (s x) in

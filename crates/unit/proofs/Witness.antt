@@ -34,7 +34,7 @@ use Rattle.unit.specs.SendingPromise.{SendingPromise, FlushPromise}
 use Rattle.message.proofs.Tests.{both}
 use Rattle.unit.proofs.Cells.{cell-self}
 use Rattle.unit.proofs.Tests.{clash}
-use Rattle.unit.proofs.Sets.{row-there}
+use Rattle.judging.proofs.Judges.{judged-lies}
 use Rattle.unit.proofs.Sendings.{sending-promise}
 use Rattle.unit.proofs.Demand.{demand-3}
 use Rattle.streams.specs.Stream.{readerBy}
@@ -55,7 +55,7 @@ zeros-legal profile = record {
 }
   where
     fits : (z c : ℕ) (row : Row) → RowIn profile z c row → zeroFits row ≡ true
-    fits z c row there = row-passes zeroFits zero-fits profile c row (row-there profile z c row there .0)
+    fits z c row there = row-passes zeroFits zero-fits profile c row (judged-lies profile z c row there .there)
 
 pub some-legal-promise : (profile : Profile) → SomeLegalPromise profile
 some-legal-promise profile = record { settings = zeroSettings; legal = zeros-legal profile }

@@ -13,7 +13,8 @@ use Rattle.frame.specs.declared.reader.ByteAnswer.the-variants.{Waiting, Noise,
 use Rattle.row.specs.Table.{rowOf}
 use Rattle.row.specs.declared.profile.Profile.{Profile}
 use Rattle.row.specs.declared.table.Row.{Row}
-use Rattle.judging.specs.Judge.{rowIn}
+use Rattle.row.specs.declared.table.Found.{Found}
+use Rattle.row.specs.declared.table.Found.the-variants as found
 use Rattle.message.specs.Content.{encodedOf}
 use Rattle.message.specs.Message.{readOf}
 use Rattle.message.specs.declared.content.Content.{Content}
@@ -85,9 +86,8 @@ abbrev pub nothing : Settings → Done
 nothing s = record { settings = s; answer = [] }
 
 -- "Otherwise the command acts and the answer holds the row's value after it."
-abbrev pub acted : Profile → Settings → Said → Done
-acted profile s said =
-    let row = rowIn (rowOf profile (said .command)) in
+abbrev pub acted : Row → Settings → Said → Done
+acted row s said =
     let x = about row s (said .zone) (said .command) (said .content) in
     let after = put s x (valueAfter row (said .content) (s x)) in
     record { settings = after; answer = frameOf Answer (said .zone) (said .command) 0x00 (shown x (after x)) }
@@ -99,9 +99,14 @@ refusalCode n = cond (eqb n 1) 0x82 (cond (eqb n 2) 0x83 (cond (eqb n 3) 0x86 0x
 abbrev pub refused : Settings → ℕ → ℕ → ℕ → Done
 refused s zone command n = record { settings = s; answer = frameOf Answer zone command (refusalCode n) [] }
 
+-- in the row that was found; no command is read without one
+abbrev pub actedIn : Found → Settings → Said → Done
+actedIn (found.Row row) s said = acted row s said
+actedIn found.NoRow s said = nothing s
+
 -- by the message that it is read as; no command is read as a status or as denied
 abbrev pub doneBy : Profile → Settings → ℕ → ℕ → Reading → Done
-doneBy profile s zone command (reading.Message (message.Command said)) = acted profile s said
+doneBy profile s zone command (reading.Message (message.Command said)) = actedIn (rowOf profile (said .command)) s said
 doneBy profile s zone command (reading.Message (message.Status said)) = nothing s
 doneBy profile s zone command (reading.Message (message.Denied d)) = nothing s
 doneBy profile s zone command (reading.Refused n) = refused s zone command n

@@ -12,7 +12,6 @@ use Rattle.row.specs.Table.{rowOf}
 use Rattle.row.specs.declared.profile.Profile.{Profile}
 use Rattle.row.specs.declared.table.Row.{Row}
 use Rattle.row.specs.declared.table.Found.the-variants as found
-use Rattle.judging.specs.Judge.{rowIn}
 use Rattle.message.specs.Content.{contentOf}
 use Rattle.message.specs.Message.{fromReading, frameRead}
 use Rattle.message.specs.declared.content.Content.the-variants.{Request, Input}
@@ -31,6 +30,8 @@ use Rattle.unit.specs.Sending.{Bytes, settingOf}
 -- the answer to a command: its data show a cell as it is after the command, the row's in that zone or an input of S 0F, and the library
 -- reads it as the status of that zone and command
 pub record Told (profile : Profile) (c : Said) (d : Done) : Type 0 where
+  pub row : Row
+  pub there : rowOf profile (c .command) ≡ found.Row row
   pub cell : Setting
   pub which : (cell ≡ value (c .zone) (c .command)) ⊎ ((i : ℕ) × (cell ≡ input i))
   pub shows : d .answer ≡ frameOf Answer (c .zone) (c .command) 0x00 (shown cell (d .settings cell))
@@ -38,7 +39,7 @@ pub record Told (profile : Profile) (c : Said) (d : Done) : Type 0 where
       ≡ frame.Message (message.Status (record {
         zone = c .zone;
         command = c .command;
-        content = contentOf Answer (rowIn (rowOf profile (c .command))) (shown cell (d .settings cell));
+        content = contentOf Answer row (shown cell (d .settings cell));
       }))
 
 -- the answer to a refused frame: the number is one of the four, and the library reads the answer as denied

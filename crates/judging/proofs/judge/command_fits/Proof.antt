@@ -1,4 +1,4 @@
--- `rules::judge::command_fits` meets its contract.
+-- `judging::judge::command_fits` meets its contract.
 use mathlib.Core.Path.{sym, _∙_}
 use borrow.Author.Needs.{needs}
 use Rattle.judging.proofs.judge.command_fits.Statement.{statement}

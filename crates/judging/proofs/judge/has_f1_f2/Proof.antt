@@ -1,4 +1,4 @@
--- `rules::judge::has_f1_f2` meets its contract.
+-- `judging::judge::has_f1_f2` meets its contract.
 use Rattle.judging.proofs.judge.has_f1_f2.Statement.{statement}
 use Rattle.judging.proofs.judge.has_f1_f2.Tie as tie
 

@@ -1,4 +1,4 @@
--- `rules::judge::is_answer` meets its contract.
+-- `judging::judge::is_answer` meets its contract.
 use mathlib.Core.Path.{sym, _∙_}
 use borrow.Author.Needs.{needs}
 use Rattle.judging.proofs.judge.is_answer.Statement.{statement}

@@ -1,4 +1,4 @@
--- `rules::judge::is_setting` meets its contract.
+-- `judging::judge::is_setting` meets its contract.
 use mathlib.Core.Path.{sym, _∙_}
 use borrow.Author.Needs.{needs}
 use Rattle.judging.proofs.judge.is_setting.Statement.{statement}

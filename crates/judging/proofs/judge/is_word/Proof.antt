@@ -1,4 +1,4 @@
--- `rules::judge::is_word` meets its contract.
+-- `judging::judge::is_word` meets its contract.
 use borrow.Author.Tests.{eq-eqb, ne-eqb}
 use borrow.Author.Needs.{needs}
 use Rattle.judging.proofs.judge.is_word.Statement.{statement}

@@ -1,4 +1,4 @@
--- `rules::judge::judge` meets its contract.
+-- `judging::judge::judge` meets its contract.
 use lib.ListN.{length}
 use mathlib.Core.Path.{sym, _∙_}
 use borrow.Author.Tests.{not-false}

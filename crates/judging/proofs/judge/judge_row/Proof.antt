@@ -1,4 +1,4 @@
--- `rules::judge::judge_row` meets its contract.
+-- `judging::judge::judge_row` meets its contract.
 use borrow.Author.Tests.{eq-eqb, ne-eqb, lt-ltb, le-ltb}
 use Rattle.judging.specs.Judge.{rowJudged}
 use borrow.Author.Needs.{needs}

@@ -1,4 +1,4 @@
--- `rules::judge::length_fits` meets its contract.
+-- `judging::judge::length_fits` meets its contract.
 use borrow.Author.Tests.{eq-eqb, ne-eqb}
 use borrow.Author.Needs.{needs}
 use Rattle.judging.proofs.judge.length_fits.Statement.{statement}

@@ -1,4 +1,4 @@
--- `rules::judge::lies_within` meets its contract.
+-- `judging::judge::lies_within` meets its contract.
 use borrow.Author.Needs.{needs}
 use borrow.Author.Tests.{lt-leb, le-leb}
 use Rattle.judging.proofs.judge.lies_within.Statement.{statement}

@@ -1,4 +1,4 @@
--- `rules::judge::pair_fits` meets its contract.
+-- `judging::judge::pair_fits` meets its contract.
 use borrow.Author.Tests.{lt-leb, le-leb, not-true, not-false}
 use borrow.Author.Needs.{needs}
 use Rattle.judging.proofs.judge.pair_fits.Statement.{statement}

@@ -1,4 +1,4 @@
--- `rules::judge::value_fits` meets its contract.
+-- `judging::judge::value_fits` meets its contract.
 use borrow.Author.Tests.{eq-eqb, ne-eqb}
 use borrow.Author.Needs.{needs}
 use Rattle.judging.proofs.judge.value_fits.Statement.{statement}

@@ -1,7 +1,7 @@
 -- `message::read::read_said` meets its contract.
 use Rattle.message.specs.Computed.{judgedOn}
 use mathlib.Core.Path.{sym, _∙_, ap}
-use Rattle.message.proofs.Readings.{said-refused, said-legal, legal-some}
+use Rattle.message.proofs.Readings.{legal-some}
 use borrow.Author.Needs.{needs}
 use Rattle.message.proofs.read.read_said.Statement.{statement}
 use Rattle.message.proofs.read.read_said.Tie as tie
@@ -21,7 +21,7 @@ judged-refused-requires c κs = search needs
 returns : tie.Need-returns
 returns c =
     let told = c .before .enum-told .given .1 in
-    c .judged-refused .ensures ∙ ap judgedOn told ∙ sym (said-refused _ _ _ _ _ _ (sym (c .before .before .before .judge .ensures) ∙ told))
+    c .judged-refused .ensures ∙ ap judgedOn told ∙ rw (sym (c .before .before .before .judge .ensures) ∙ told)
 
 content-of-requires : tie.Need-content-of-requires
 content-of-requires c κs =
@@ -31,7 +31,7 @@ content-of-requires c κs =
 returns-2 : tie.Need-returns-2
 returns-2 c =
     let told = c .before .before .judged .given in
-    rw (c .content-of .ensures) (sym (said-legal _ _ _ _ _ (told .0 .0) (sym (c .before .before .before .before .judge .ensures) ∙ told .1)))
+    rw (c .content-of .ensures, sym (c .before .before .before .before .judge .ensures) ∙ told .1)
 
 pub read-said-spec : {M : Type 1} → statement M
 read-said-spec =

@@ -3,7 +3,6 @@ use Rattle.frame.specs.Frame.{frameOf}
 use mathlib.Core.Path.{sym, _∙_, ap}
 use Rattle.message.proofs.Writes.{fields-refused, fields-message}
 use Rattle.fields.proofs.Raws.{raw-short}
-use Rattle.message.specs.Write.{fieldsAnswered, fieldsLeft}
 use Rattle.message.specs.Computed.{readingWritten}
 use borrow.Author.Needs.{needs}
 use Rattle.message.proofs.write.write_fields.Statement.{statement}
@@ -22,7 +21,6 @@ reading-written-requires : tie.Need-reading-written-requires
 reading-written-requires c κs = search needs
 
 returns : tie.Need-returns
-unfolding fieldsAnswered fieldsLeft
 returns c =
     let g = c .before .before .before .before .before .before .args in
     let told = c .before .enum-told2 .given .1 in
@@ -36,7 +34,6 @@ same-length : tie.Need-same-length
 same-length c = search needs
 
 returns-2 : tie.Need-returns-2
-unfolding fieldsAnswered fieldsLeft
 returns-2 c =
     let g = c .before .before .before .before .before .before .before .before .before .args in
     let told = c .before .before .before .before .enum-told .given in

@@ -1,5 +1,4 @@
 -- `message::write::write_message` meets its contract.
-use Rattle.message.specs.Write.{messageAnswered, messageLeft}
 use borrow.Author.Needs.{needs}
 use Rattle.message.proofs.write.write_message.Statement.{statement}
 use Rattle.message.proofs.write.write_message.Tie as tie
@@ -26,21 +25,18 @@ same-length : tie.Need-same-length
 same-length c = search needs
 
 returns : tie.Need-returns
-unfolding messageAnswered messageLeft
 returns c = rw (c .before .before .before .before .before .message .given .1) (c .before .before .write-said .ensures)
 
 same-length-2 : tie.Need-same-length-2
 same-length-2 c = search needs
 
 returns-2 : tie.Need-returns-2
-unfolding messageAnswered messageLeft
 returns-2 c = rw (c .before .before .before .before .before .message2 .given .1) (c .before .before .write-said2 .ensures)
 
 same-length-3 : tie.Need-same-length-3
 same-length-3 c = search needs
 
 returns-3 : tie.Need-returns-3
-unfolding messageAnswered messageLeft
 returns-3 c = rw (c .before .before .before .before .before .message3 .given .1) (c .before .before .write-denied .ensures)
 
 pub write-message-spec : {M : Type 1} → statement M

@@ -2,7 +2,7 @@
 use mathlib.Core.Path.{sym, _∙_}
 use native.Mathlib.Omega.{arith}
 use borrow.Author.Needs.{needs}
-use Rattle.tracker.proofs.Cells.{lies, within}
+use Rattle.tracker.proofs.Cells.{stands, within}
 use Rattle.tracker.proofs.feed.with_status.Statement.{statement}
 use Rattle.tracker.proofs.feed.with_status.Tie as tie
 
@@ -22,7 +22,7 @@ returns-2 : tie.Need-returns-2
 returns-2 c = rw (← c .before .before .before .before .judge-row .ensures, c .before .before .judged .given .1, c .if1 .taken)
 
 cell-of-requires : tie.Need-cell-of-requires
-cell-of-requires c κs = let l = lies _ _ _ (c .before .before .judged .given .0 .0) (sym (c .before .before .before .before .judge-row .ensures) ∙ c .before .before .judged .given .1) in (l .place, l .low, l .high)
+cell-of-requires c κs = let l = stands _ _ _ (c .before .before .judged .given .0 .0) (sym (c .before .before .before .before .judge-row .ensures) ∙ c .before .before .judged .given .1) in (l .place, l .low, l .high)
 
 element-write-next : tie.Need-element-write-next
 element-write-next c =

@@ -4,7 +4,7 @@ use native.Mathlib.Omega.{arith}
 use borrow.Author.Needs.{needs}
 use borrow.Author.Tests.{eq-eqb, ne-eqb}
 use Rattle.tracker.specs.Tracker.{keptIn}
-use Rattle.tracker.proofs.Cells.{lies, within}
+use Rattle.tracker.proofs.Cells.{stands, within}
 use Rattle.tracker.proofs.tracker.kept_in.Statement.{statement}
 use Rattle.tracker.proofs.tracker.kept_in.Tie as tie
 
@@ -26,7 +26,7 @@ unfolding keptIn
 returns-2 c = rw (← c .before .before .before .before .judge-row .ensures, c .before .before .judged .given .1, c .if1 .taken)
 
 cell-of-requires : tie.Need-cell-of-requires
-cell-of-requires c κs = let l = lies _ _ _ (c .before .before .judged .given .0 .0) (sym (c .before .before .before .before .judge-row .ensures) ∙ c .before .before .judged .given .1) in (l .place, l .low, l .high)
+cell-of-requires c κs = let l = stands _ _ _ (c .before .before .judged .given .0 .0) (sym (c .before .before .before .before .judge-row .ensures) ∙ c .before .before .judged .given .1) in (l .place, l .low, l .high)
 
 array-read-if2 : tie.Need-array-read-if2
 array-read-if2 c =
