@@ -8,6 +8,7 @@ use borrow.Author.Tests.{ltb-true, ltb-false}
 use lib.Dec.{ltb}
 use lib.ListN.{length, getD, length-append}
 use Rattle.lists.specs.Each.{Each}
+use Rattle.lists.proofs.Each.{each-append}
 use Rattle.characters.specs.Class.{isDigit}
 use Rattle.characters.specs.Decimal.{digit, decimalIn, decimal, readBehind, decimalRead}
 use Rattle.characters.specs.DecimalPromise.{DecimalPromise}
@@ -18,10 +19,6 @@ Digit d = isDigit d ≡ true
 
 is-digit : (n : ℕ) → n < 10 → Digit (digit n)
 is-digit n h = within 0x30 0x39 (digit n) (omega arith) (omega arith)
-
-each-behind : (ds : List ℕ) (d : ℕ) → Each Digit ds → Digit d → Each Digit (ds ++ d ∷ [])
-each-behind [] d all last = (last, tt)
-each-behind (x ∷ ds) d all last = (all .0, each-behind ds d (all .1) last)
 
 first-same : (ds ys : List ℕ) → 0 < length ds → getD (ds ++ ys) 0 0 ≡ getD ds 0 0
 first-same [] ys h = absurd (omega arith)
@@ -50,7 +47,7 @@ text-one n h = record {
 
 text-more : (n : ℕ) (ds : List ℕ) → 10 ≤ n → Text (n / 10) ds → Text n (ds ++ digit (n % 10) ∷ [])
 text-more n ds h t = record {
-  digits = each-behind ds (digit (n % 10)) (t .digits) (is-digit (n % 10) (omega arith));
+  digits = each-append Digit ds (digit (n % 10) ∷ []) (t .digits) (is-digit (n % 10) (omega arith), tt);
   some = omega (arith, length-append ds (digit (n % 10) ∷ []));
   leads = λ more e. t .leads (omega arith) (sym (first-same ds (digit (n % 10) ∷ []) (t .some)) ∙ e);
   reads = omega (arith, read-last ds (digit (n % 10)) 0, t .reads);

@@ -3,11 +3,10 @@ use Prim.Native.Nat.{ℕ}
 use Prim.Native.String.{String}
 use mathlib.Core.Bool.{cond}
 use mathlib.Core.List.{List, [], _∷_, _++_}
-use lib.Dec.{ltb}
 use lib.ListN.{length, drop}
-use Rattle.refusals.specs.Rule.{rule, ruled}
+use Rattle.refusals.specs.Rule.{ruled}
 use Rattle.frame.specs.Letter.{directionOf}
-use Rattle.frame.specs.Capture.{captureLimit, totalsOf, eventsFrom}
+use Rattle.frame.specs.Capture.{longCapture, totalsOf, eventsFrom}
 use Rattle.lists.specs.InOrder.{inOrder}
 use Rattle.lent.specs.Placed.{bytesAt}
 use Rattle.characters.specs.Letters.{letters}
@@ -101,7 +100,7 @@ refusedText n = textLine (letters "refused") (decimal n ∷ [])
 
 -- what an input asks for: "Order: 12, then 11, before all others."
 abbrev pub askedBy : profile.Named → direction.Named → ℕ → Asked
-askedBy (family.Profile p) (directed.Direction dir) count = ruled (rule 11 (ltb captureLimit count) ∷ []) asks.Refused (asks.Listing p dir)
+askedBy (family.Profile p) (directed.Direction dir) count = ruled (longCapture count ∷ []) asks.Refused (asks.Listing p dir)
 askedBy (family.Profile p) (directed.Refused n) count = asks.Refused n
 askedBy (family.Refused n) named count = asks.Refused n
 
