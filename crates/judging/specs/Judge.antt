@@ -55,6 +55,10 @@ hasByte Answer row b = isAnswer row b
 abbrev pub hasValue : Direction → Row → List ℕ → Bool
 hasValue dir row body = cond (eqb (length body) 2) (isPair row (getD body 0 0) (getD body 1 0)) (hasByte dir row (getD body 0 0))
 
+-- data that the row and direction have
+abbrev pub hasData : Direction → Row → List ℕ → Bool
+hasData dir row body = hasLength dir row (length body) && hasValue dir row body
+
 -- 1: "zone not of the profile, or not 1 in a zone-1 row"
 abbrev pub profileZone : Profile → ℕ → Rule
 profileZone profile zone = rule 1 (eqb zone 0 || ltb (zonesOf profile) zone)
