@@ -4,8 +4,8 @@ use crate::out::say_buffer;
 use crate::out::say_byte;
 use crate::out::say_byte_after;
 use crate::out::say_counted;
+use crate::out::say_integer;
 use crate::out::say_letter;
-use crate::out::say_number;
 use crate::out::say_refused;
 use crate::spaces;
 use frame::direction::Direction;
@@ -181,22 +181,6 @@ pub(crate) fn say_content(content: Content) {
 fn say_word(place: usize, length: usize) {
     let words = b"request up down on off toggle number ";
     say(lent::part::bytes_at(words, place, length))
-}
-
-// A number that may be below zero.
-fn say_integer(number: i16) {
-    if number < 0 {
-        say_letter(b'-');
-    }
-    say_number(size_of(number) as u64)
-}
-
-// A number without its sign; the wider type is for the least number.
-fn size_of(number: i16) -> u16 {
-    if number < 0 {
-        return (0 - number as i32) as u16;
-    }
-    number as u16
 }
 
 fn say_input(input: u8, on: bool) {

@@ -1,4 +1,9 @@
 // What is printed, on standard output.
+use characters::decimal::write_integer;
+use characters::hex::hex_digit;
+use lent::part::bytes_at;
+use lent::written::Written;
+
 const OUT: i32 = 1;
 
 pub(crate) fn say(part: &[u8]) {
@@ -26,7 +31,7 @@ pub(crate) fn say_refused(number: u8) {
 
 // A space, and a byte as hex digits.
 pub(crate) fn say_byte_after(byte: u8) {
-    io::write_all(OUT, &[b' ', digit(byte / 16), digit(byte % 16)]);
+    io::write_all(OUT, &[b' ', hex_digit(byte / 16), hex_digit(byte % 16)]);
 }
 
 // Bytes behind all else that is said.
@@ -42,17 +47,17 @@ pub(crate) fn say_counted(word: &[u8], number: u64) {
 }
 
 pub(crate) fn say_byte(byte: u8) {
-    io::write_all(OUT, &[digit(byte / 16), digit(byte % 16)]);
+    io::write_all(OUT, &[hex_digit(byte / 16), hex_digit(byte % 16)]);
 }
 
-fn digit(value: u8) -> u8 {
-    if value < 10 {
-        return b'0' + value;
-    }
-    if value < 16 {
-        return b'A' + (value - 10);
-    }
-    b'?'
+// A number that may be below zero: five digits at most, and a sign.
+pub(crate) fn say_integer(number: i16) {
+    let mut digits = [0u8; 6];
+    let written = write_integer(&mut digits, 0, number as i32);
+    let Written::Bytes(count) = written else {
+        return;
+    };
+    io::write_all(OUT, bytes_at(&digits, 0, count));
 }
 
 // Bytes as hex digits, run together; a dash for none.
@@ -71,13 +76,13 @@ fn gather(bytes: &[u8], gathered: &mut [u8]) {
     for i in 0..bytes.len() {
         at = put_pair(gathered, at, bytes[i]);
     }
-    say(lent::part::bytes_at(gathered, 0, at));
+    say(bytes_at(gathered, 0, at));
 }
 
 fn put_pair(gathered: &mut [u8], at: usize, byte: u8) -> usize {
     let start = with_room(gathered, at);
-    let second = put_byte(gathered, start, digit(byte / 16));
-    put_byte(gathered, second, digit(byte % 16))
+    let second = put_byte(gathered, start, hex_digit(byte / 16));
+    put_byte(gathered, second, hex_digit(byte % 16))
 }
 
 fn with_room(gathered: &[u8], at: usize) -> usize {
@@ -86,7 +91,7 @@ fn with_room(gathered: &[u8], at: usize) -> usize {
             return at;
         }
     }
-    say(lent::part::bytes_at(gathered, 0, at));
+    say(bytes_at(gathered, 0, at));
     0
 }
 

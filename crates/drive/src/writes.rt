@@ -115,14 +115,14 @@ fn write(
     spot: usize,
 ) -> Written {
     if operation == names::DECIMAL {
-        return listing_pieces::number::write_decimal(
+        return characters::decimal::write_decimal(
             buf,
             spot,
-            (number(space, ends, 3) % 65536) as u16,
+            (number(space, ends, 3) % 65536) as u32,
         );
     }
     if operation == names::HEX {
-        return listing_pieces::number::write_hex(buf, spot, byte(space, ends, 3));
+        return characters::hex::write_hex(buf, spot, byte(space, ends, 3));
     }
     if operation == names::RAW {
         return raw(space, ends, buf, spot);

@@ -52,7 +52,7 @@ module _ (dir : Direction) (at : ℕ) where
       ap (λ (x : ByteAnswer). eventsTold at (x ∷ answers dir (takenAfter dir taken b) bs) (length (takenBy dir (takenAfter dir taken b) bs))) e
       ∙ ap (λ (l : List ℕ). eventsTold at (a ∷ answers dir l bs) (length (takenBy dir l bs))) f
 
-  events-noise : (b : ℕ) (bs : List ℕ) → eqb b opens ≡ false → eventsOn dir at [] (b ∷ bs) ≡ event at 1 Noise ∷ eventsOn dir (at + 1) [] bs
+  pub events-noise : (b : ℕ) (bs : List ℕ) → eqb b opens ≡ false → eventsOn dir at [] (b ∷ bs) ≡ event at 1 Noise ∷ eventsOn dir (at + 1) [] bs
   unfolding eventsTold
   events-noise b bs e =
       let step = taken-outside dir [] b refl in
@@ -65,7 +65,7 @@ module _ (dir : Direction) (at : ℕ) where
       events-byte [] b bs answer.Waiting (b ∷ []) (step .0 ∙ rw e) (step .1 ∙ rw e)
 
   -- a frame that is not finished
-  events-pending : (b : ℕ) (bs : List ℕ) → eqb b opens ≡ true → Stands dir (b ∷ bs) → eventsOn dir at [] (b ∷ bs) ≡ event at (suc (length bs)) Pending ∷ []
+  pub events-pending : (b : ℕ) (bs : List ℕ) → eqb b opens ≡ true → Stands dir (b ∷ bs) → eventsOn dir at [] (b ∷ bs) ≡ event at (suc (length bs)) Pending ∷ []
   unfolding eventsTold answersBy readerBy
   events-pending b bs e s =
       events-open b bs e
@@ -80,14 +80,14 @@ module _ (dir : Direction) (at : ℕ) (taken : List ℕ) (some : 0 < length take
       let step = taken-end dir taken b some full in
       events-byte dir at taken b bs (answer.Frame (length taken + 1)) [] (step .0 ∙ rw e) (step .1 ∙ rw (ne-eqb b opens (omega (arith, eqb-true b ends e))))
 
-  events-next : eqb b opens ≡ true → eventsOn dir at taken (b ∷ bs) ≡ event at (length taken) Broken ∷ eventsOn dir (at + length taken) [] (b ∷ bs)
+  pub events-next : eqb b opens ≡ true → eventsOn dir at taken (b ∷ bs) ≡ event at (length taken) Broken ∷ eventsOn dir (at + length taken) [] (b ∷ bs)
   unfolding eventsTold
   events-next e =
       let step = taken-end dir taken b some full in
       events-byte dir at taken b bs (answer.Broken (length taken)) (b ∷ []) (step .0 ∙ rw (ne-eqb b ends (omega (arith, eqb-true b opens e)), e)) (step .1 ∙ rw e)
       ∙ ap (λ (l : List Event). event at (length taken) Broken ∷ l) (sym (events-open dir (at + length taken) b bs e))
 
-  events-broken : eqb b ends ≡ false → eqb b opens ≡ false
+  pub events-broken : eqb b ends ≡ false → eqb b opens ≡ false
       → eventsOn dir at taken (b ∷ bs) ≡ event at (length taken + 1) Broken ∷ eventsOn dir (at + (length taken + 1)) [] bs
   unfolding eventsTold
   events-broken e f =

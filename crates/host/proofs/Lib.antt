@@ -2,3 +2,4 @@
 pub mod Folds
 pub mod Lent
 pub mod OneAnswer
+pub mod Said

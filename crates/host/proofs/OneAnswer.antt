@@ -15,9 +15,10 @@ use Rattle.sheetfile.specs.declared.write.SheetWritten.{SheetWritten}
 use Rattle.tracker.specs.Tracker.{keptIn}
 use Rattle.tracker.specs.Feed.{answerFed}
 use Rattle.signing.specs.Sign.{signOff}
-use Rattle.signing.specs.Capture.{captureFed, captureSigned}
+use Rattle.tracker.specs.Capture.{captureFed}
+use Rattle.signing.specs.Capture.{captureSigned}
 use Rattle.tracker.specs.declared.tracker.Tracker.{Tracker}
-use Rattle.signing.specs.declared.capture.CaptureAnswer.{CaptureAnswer}
+use Rattle.tracker.specs.declared.capture.CaptureAnswer.{CaptureAnswer}
 
 pub with-lines-one : (lines : List Line) (from : Sheet) → OneAnswer (λ x. x ≡ withAll from lines)
 with-lines-one lines from = one (withAll from lines)

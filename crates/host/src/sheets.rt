@@ -37,7 +37,8 @@ pub fn check_sheet(profile: Profile, lines: &[Line]) -> Verdict
 
 // Writes its file into the rest of the buffer from a place: the sheet's checks, then 9.
 pub fn write_sheet_file(profile: Profile, lines: &[Line], buf: &mut [u8], at: usize) -> SheetWritten
-    ensures { λ r. ⌜ (r ≡ fileAnswered profile (now (lines .entry)) (now (buf .entry)) at) × (now (buf .exit) ≡ fileLeft profile (now (lines .entry)) (now (buf .entry)) at) ⌝ }
+    ensures answers { λ r. ⌜ r ≡ fileAnswered profile (now (lines .entry)) (now (buf .entry)) at ⌝ }
+    ensures leaves { λ _. ⌜ now (buf .exit) ≡ fileLeft profile (now (lines .entry)) (now (buf .entry)) at ⌝ }
 {
     let empty = no_lines();
     let sheet = with_lines(lines, empty);
@@ -46,7 +47,8 @@ pub fn write_sheet_file(profile: Profile, lines: &[Line], buf: &mut [u8], at: us
 
 // Writes its run into the rest of the buffer from a place: the sheet's checks, then 9 for the whole run.
 pub fn write_run(profile: Profile, lines: &[Line], buf: &mut [u8], at: usize) -> SheetWritten
-    ensures { λ r. ⌜ (r ≡ runAnswered profile (now (lines .entry)) (now (buf .entry)) at) × (now (buf .exit) ≡ runLeft profile (now (lines .entry)) (now (buf .entry)) at) ⌝ }
+    ensures answers { λ r. ⌜ r ≡ runAnswered profile (now (lines .entry)) (now (buf .entry)) at ⌝ }
+    ensures leaves { λ _. ⌜ now (buf .exit) ≡ runLeft profile (now (lines .entry)) (now (buf .entry)) at ⌝ }
 {
     let empty = no_lines();
     let sheet = with_lines(lines, empty);

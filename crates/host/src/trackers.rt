@@ -3,11 +3,11 @@ use message::read::Reading;
 use row::profile::Profile;
 use sheet::line::Line;
 use sheet::sheet::no_lines;
-use signing::capture::CaptureAnswer;
-use signing::capture::after_capture;
 use signing::capture::capture_signs;
 use signing::sign::Signed;
 use signing::sign::sign_sheet;
+use tracker::capture::CaptureAnswer;
+use tracker::capture::after_capture;
 use tracker::feed::after_answer;
 use tracker::tracker::Kept;
 use tracker::tracker::Tracker;
@@ -15,8 +15,9 @@ use tracker::tracker::kept_in;
 ghost use mathlib.Core.Path.{_≡_};
 ghost use Rattle.tracker.specs.Tracker.{keptIn};
 ghost use Rattle.tracker.specs.Feed.{answerFed};
+ghost use Rattle.tracker.specs.Capture.{captureFed};
 ghost use Rattle.signing.specs.Sign.{signOff};
-ghost use Rattle.signing.specs.Capture.{captureFed, captureSigned};
+ghost use Rattle.signing.specs.Capture.{captureSigned};
 
 // The byte that a tracker knows of a row and zone.
 pub fn read_cell(tracker: &Tracker, zone: u8, command: u8) -> Kept
@@ -28,7 +29,8 @@ pub fn read_cell(tracker: &Tracker, zone: u8, command: u8) -> Kept
 // Feeds what an answer's frame brings to the tracker where the host keeps it: a status answer makes its one cell
 // known. It gives the message, or the number of the refusal, and then the tracker is as it was.
 pub fn feed(tracker: &mut Tracker, zone: u8, command: u8, answer: u8, body: &[u8]) -> Reading
-    ensures { λ r. ⌜ (r ≡ answerFed (now (tracker .entry)) zone command answer (now (body .entry)) .reading) × (now (tracker .exit) ≡ answerFed (now (tracker .entry)) zone command answer (now (body .entry)) .tracker) ⌝ }
+    ensures answers { λ r. ⌜ r ≡ answerFed (now (tracker .entry)) zone command answer (now (body .entry)) .reading ⌝ }
+    ensures leaves { λ _. ⌜ now (tracker .exit) ≡ answerFed (now (tracker .entry)) zone command answer (now (body .entry)) .tracker ⌝ }
 {
     let f = after_answer(*tracker, zone, command, answer, body);
     *tracker = f.tracker;
@@ -38,7 +40,8 @@ pub fn feed(tracker: &mut Tracker, zone: u8, command: u8, answer: u8, body: &[u8
 // Feeds every answer frame of a whole capture, in order; 11 for a capture over 60,000 bytes, and then the tracker is
 // as it was. A frame that is cut between two captures is fed by neither.
 pub fn feed_capture(tracker: &mut Tracker, capture: &[u8]) -> CaptureAnswer
-    ensures { λ r. ⌜ (r ≡ captureFed (now (tracker .entry)) (now (capture .entry)) .answer) × (now (tracker .exit) ≡ captureFed (now (tracker .entry)) (now (capture .entry)) .tracker) ⌝ }
+    ensures answers { λ r. ⌜ r ≡ captureFed (now (tracker .entry)) (now (capture .entry)) .answer ⌝ }
+    ensures leaves { λ _. ⌜ now (tracker .exit) ≡ captureFed (now (tracker .entry)) (now (capture .entry)) .tracker ⌝ }
 {
     let f = after_capture(*tracker, capture);
     *tracker = f.tracker;

@@ -1,10 +1,7 @@
--- Proofs about text.
-pub mod Digits
+-- Proofs about the listing in pieces.
 pub mod Puts
-pub mod Sizes
 pub mod Counts
 pub mod Pieces
 pub mod Whole
 pub mod Refusals
-pub mod Rooms
 pub mod OneAnswer

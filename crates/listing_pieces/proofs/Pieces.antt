@@ -8,6 +8,7 @@ use borrow.Author.Tests.{lt-ltb, le-ltb}
 use lib.Dec.{ltb}
 use lib.ListN.{length, length-append}
 use Rattle.lent.specs.Placed.{placed}
+use Rattle.lent.proofs.Placed.{placed-both}
 use Rattle.frame.specs.Capture.{eventsFrom, firstOf}
 use Rattle.frame.specs.declared.direction.Direction.{Direction}
 use Rattle.frame.specs.declared.capture.Event.{Event}
@@ -19,7 +20,6 @@ use Rattle.listing_pieces.specs.Computed.{Put, firstText, firstNext, isE
 use Rattle.listing_pieces.specs.declared.piece.Place.{Place}
 use Rattle.listing_pieces.specs.declared.piece.Place.the-variants as place
 use Rattle.listing_pieces.specs.declared.piece.Piece.the-variants as piece
-use Rattle.listing_pieces.proofs.Puts.{placed-both}
 
 -- text before what is given
 abbrev pub onward : List ℕ → Given → Given

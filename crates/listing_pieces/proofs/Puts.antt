@@ -1,44 +1,32 @@
 -- Texts put one behind another are one text.
 use mathlib.Core.Path.{_≡_, refl, ap, sym, _∙_}
 use mathlib.Core.List.{List, _∷_, _++_, [], append-assoc}
-use Prim.Native.Nat.{ℕ, _+_, _-_, _≤_}
+use Prim.Native.Nat.{ℕ, _+_, _^_, _≤_, _<_}
 use native.Mathlib.Omega.{arith}
 use lib.ListN.{length, take, drop, length-append, take-append-drop}
-use lib.Seq.{length-take-le, take-at, drop-at, drop-drop}
 use Rattle.lent.specs.Placed.{placed}
+use Rattle.lent.specs.Written.{writeAnswered, writeLeft, writtenCount}
+use Rattle.lent.specs.declared.written.Written.{Written}
+use Rattle.lent.proofs.Placed.{placed-both}
+use Rattle.lent.proofs.Writes.{write-fits}
 use Rattle.listing_text.specs.Listing.{textLine}
 use Rattle.listing_pieces.specs.Computed.{Put, behind}
 
-module _ (buf : List ℕ) (at : ℕ) (first second : List ℕ) (within : at ≤ length buf) where
-  head : length (take at buf ++ first) ≡ at + length first
-  head = length-append (take at buf) first ∙ ap (λ (k : ℕ). k + length first) (length-take-le at buf within)
+-- what a write answers and leaves where there is room for its text
+module _ {buf after text : List ℕ} {at : ℕ} {w : Written} where
+  pub wrote : (m end : ℕ) → at + length text ≤ length buf → length text ≤ m → w ≡ writeAnswered [] buf at text → after ≡ writeLeft [] buf at text
+      → end ≡ at + writtenCount w → Put m buf at text after end
+  wrote m end room short answers leaves e =
+      let there = write-fits [] buf at text refl room in
+      let count : writtenCount w ≡ length text = ap writtenCount (answers ∙ there .0) in
+      record { stands = leaves ∙ there .1; ends = omega (arith, e, count); short = omega (arith, e, count, short) }
 
-  abbrev rest : List ℕ
-  rest = drop (at + length first) buf
-
-  abbrev once : List ℕ
-  once = placed buf at first
-
-  seam : once ≡ (take at buf ++ first) ++ rest
-  seam = sym (append-assoc (take at buf) first rest)
-
-  before : take (at + length first) once ≡ take at buf ++ first
-  before = ap (λ (xs : List ℕ). take (at + length first) xs) seam ∙ take-at (take at buf ++ first) rest (at + length first) head
-
-  after : drop (at + length first + length second) once ≡ drop (at + length (first ++ second)) buf
-  after =
-      let long : at + length first + length second ≡ at + length (first ++ second) = omega (arith, length-append first second) in
-      sym (drop-drop (length second) (at + length first) once)
-      ∙ ap (λ (xs : List ℕ). drop (length second) xs)
-      (ap (λ (xs : List ℕ). drop (at + length first) xs) seam ∙ drop-at (take at buf ++ first) rest (at + length first) head)
-      ∙ drop-drop (length second) (at + length first) buf ∙ ap (λ (k : ℕ). drop k buf) long
-
-  pub placed-both : placed once (at + length first) second ≡ placed buf at (first ++ second)
-  placed-both =
-      ap (λ (xs : List ℕ). xs ++ (second ++ drop (at + length first + length second) once)) before
-      ∙ ap (λ (xs : List ℕ). (take at buf ++ first) ++ (second ++ xs)) after
-      ∙ append-assoc (take at buf) first (second ++ drop (at + length (first ++ second)) buf)
-      ∙ ap (λ (xs : List ℕ). take at buf ++ xs) (sym (append-assoc first second (drop (at + length (first ++ second)) buf)))
+-- the place behind it is a place
+module _ (buf text : List ℕ) (at : ℕ) (w : Written) where
+  pub within : at + length text ≤ length buf → length buf < 2 ^ 64 → w ≡ writeAnswered [] buf at text → at + writtenCount w < 2 ^ 64
+  within room small answers =
+      let count : writtenCount w ≡ length text = ap writtenCount (answers ∙ write-fits [] buf at text refl room .0) in
+      omega (arith, room, small, count)
 
 module _ {m n : ℕ} {buf mid last first second : List ℕ} {at next end : ℕ} where
   pub both : at ≤ length buf → Put m buf at first mid next → Put n mid next second last end → Put (m + n) buf at (first ++ second) last end

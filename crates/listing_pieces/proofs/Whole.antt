@@ -6,6 +6,7 @@ use native.Mathlib.Omega.{arith}
 use borrow.Author.Tests.{le-ltb}
 use lib.ListN.{length, take, drop}
 use lib.Seq.{take-append-seam, drop-append-seam}
+use Rattle.lists.specs.InOrder.{inOrder}
 use Rattle.frame.specs.Capture.{totalsOf, eventsFrom}
 use Rattle.frame.specs.declared.direction.Direction.{Direction}
 use Rattle.frame.specs.declared.capture.Event.{Event}
@@ -53,7 +54,7 @@ none-both (x ∷ xs) ys e = let z : _≡_ {A = ℕ} 0 1 = cc in absurd (omega ar
 
 module _ (lines : Place → List Given) (linked : Chain lines) where
   texts-on : (room : ℕ) (at : Place) (gs : List Given) → lines at ≡ gs → texts gs ≡ filled room at gs .text ++ texts (lines (filled room at gs .next))
-  unfolding texts filled
+  unfolding inOrder filled
   texts-on room at [] e = sym (ap texts e)
   texts-on room at (g ∷ gs) e =
       let more = texts-on (room - length (g .text)) (g .next) gs (sym (linked at g gs e)) in
@@ -64,7 +65,7 @@ module _ (lines : Place → List Given) (linked : Chain lines) where
 
   -- a piece of no bytes
   texts-none : (room : ℕ) (at : Place) (gs : List Given) → lineLimit ≤ room → filled room at gs .text ≡ [] → texts gs ≡ []
-  unfolding texts filled
+  unfolding inOrder filled
   texts-none room at [] h e = refl
   texts-none room at (g ∷ gs) h e =
       let rest = filled (room - length (g .text)) (g .next) gs in
@@ -91,7 +92,7 @@ module _ (input : List ℕ) (room : ℕ) (h : lineLimit ≤ room) where
   linked-in = chain (asked input) (drop 2 input)
 
   enough : (n : ℕ) (at : Place) (gs : List Given) → comingIn input at ≡ gs → length gs ≤ n → pieces n room input at ≡ texts gs
-  unfolding pieces texts filled
+  unfolding pieces inOrder filled
   enough zero at [] e few = refl
   enough zero at (g ∷ gs) e few = absurd (omega arith)
   enough (suc n) at [] e few =
@@ -107,14 +108,14 @@ module _ (input : List ℕ) (room : ℕ) (h : lineLimit ≤ room) where
 -- the lines are the listing's text
 steps-texts : (profile : Profile) (dir : Direction) (capture : List ℕ) (es : List Event)
     → texts (comingEvents profile dir capture es) ≡ eventLines profile dir capture es ++ totalLine (length capture) (totalsOf dir capture)
-unfolding comingEvents texts eventLines
+unfolding comingEvents inOrder
 steps-texts profile dir capture [] = append-nil (totalLine (length capture) (totalsOf dir capture))
 steps-texts profile dir capture (e ∷ es) =
     ap (λ (xs : List ℕ). eventLine profile dir capture e ++ xs) (steps-texts profile dir capture es)
     ∙ sym (append-assoc (eventLine profile dir capture e) (eventLines profile dir capture es) (totalLine (length capture) (totalsOf dir capture)))
 
 whole-as : (a : Asked) (capture : List ℕ) → texts (comingAs a capture place.Start) ≡ listedAs a capture
-unfolding texts
+unfolding inOrder
 whole-as (asks.Listing p dir) capture =
     ap (λ (xs : List ℕ). heading ++ xs) (steps-texts p dir capture (eventsFrom dir capture 0))
     ∙ sym (append-assoc heading (eventLines p dir capture (eventsFrom dir capture 0)) (totalLine (length capture) (totalsOf dir capture)))

@@ -1,26 +1,18 @@
 -- What the private functions compute. Nothing here need be believed: proofs/ ties each form to the definitions.
-use Prim.Native.Nat.{ℕ, zero, suc, _+_, _/_, _%_, _≤_}
+use Prim.Native.Nat.{ℕ, _+_, _≤_}
 use mathlib.Core.Bool.{Bool, true, false, cond}
 use mathlib.Core.List.{List, [], _∷_, _++_}
 use mathlib.Core.Path.{_≡_}
-use lib.Dec.{ltb}
 use lib.ListN.{length}
 use Rattle.lent.specs.Placed.{placed}
-use Rattle.listing_text.specs.Letters.{letters}
-use Rattle.listing_text.specs.Number.{digit, decimal, hexByte}
+use Rattle.characters.specs.Letters.{letters}
+use Rattle.characters.specs.Decimal.{decimal}
+use Rattle.characters.specs.Hex.{hexByte}
 use Rattle.listing_text.specs.Listing.{valueText, textLine}
 use Rattle.message.specs.declared.read.Said.{Said}
 use Rattle.listing_pieces.specs.Pieces.{Given}
 use Rattle.listing_pieces.specs.declared.piece.Place.{Place}
 use Rattle.listing_pieces.specs.declared.piece.Place.the-variants as place
-
-abbrev pub places : ℕ → ℕ
-places n = cond (ltb n 10) 1 (cond (ltb n 100) 2 (cond (ltb n 1000) 3 (cond (ltb n 10000) 4 5)))
-
--- the last digits of a number, the most significant first
-unfoldable pub lastDigits : ℕ → ℕ → List ℕ
-lastDigits zero n = []
-lastDigits (suc k) n = lastDigits k (n / 10) ++ digit (n % 10) ∷ []
 
 -- a text of at most so many bytes was put at a place: the buffer after it, and the place behind it
 pub record Put (most : ℕ) (buf : List ℕ) (at : ℕ) (text after : List ℕ) (end : ℕ) : Type 0 where

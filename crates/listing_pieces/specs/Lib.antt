@@ -1,5 +1,4 @@
--- What must be believed: text in a lent buffer, the listing in pieces, and what is promised of them. `Computed` need not be believed.
-pub mod Text
+-- What must be believed: the listing in pieces, and what is promised of them. `Computed` need not be believed.
 pub mod Pieces
 pub mod Numbers
 pub mod PiecesPromise

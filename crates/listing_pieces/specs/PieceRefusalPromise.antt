@@ -1,22 +1,13 @@
 -- "A refusal returns its number and zero for every other field", and nothing that was lent differs after it.
 use Prim.Native.Nat.{ℕ, _≤_, _<_}
-use mathlib.Core.Bool.{true, false}
 use mathlib.Core.Path.{_≡_}
 use mathlib.Core.List.{List}
 use lib.ListN.{length}
-use Rattle.lent.specs.Written.{noRoom}
-use Rattle.lent.specs.Written.{writtenNumber, writtenCount}
-use Rattle.listing_pieces.specs.Text.{textAnswered, textLeft}
 use Rattle.listing_pieces.specs.Pieces.{lineLimit, pieceOf, pieceAnswered, pieceLeft}
 use Rattle.listing_pieces.specs.Numbers.{pieceNumber, pieceCount}
 use Rattle.listing_pieces.specs.declared.piece.Place.{Place}
 
 pub record PieceRefusalPromise : Type 0 where
-  -- a number's text is refused exactly where there is no room for it
-  pub text : (buf : List ℕ) (at : ℕ) (bytes : List ℕ) → noRoom buf at (length bytes) .applies ≡ true
-      → (writtenNumber (textAnswered buf at bytes) ≡ 9) × (writtenCount (textAnswered buf at bytes) ≡ 0) × (textLeft buf at bytes ≡ buf)
-  pub text-written : (buf : List ℕ) (at : ℕ) (bytes : List ℕ) → noRoom buf at (length bytes) .applies ≡ false
-      → (writtenNumber (textAnswered buf at bytes) ≡ 0) × (writtenCount (textAnswered buf at bytes) ≡ length bytes)
   -- a piece is refused exactly for a buffer of less than 64 bytes
   pub piece : (input : List ℕ) (at : Place) (buf : List ℕ) → length buf < lineLimit
       → (pieceNumber (pieceAnswered input at buf) ≡ 9) × (pieceCount (pieceAnswered input at buf) ≡ 0) × (pieceLeft input at buf ≡ buf)

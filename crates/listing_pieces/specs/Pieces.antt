@@ -4,6 +4,7 @@ use mathlib.Core.Bool.{cond}
 use mathlib.Core.List.{List, [], _∷_, _++_}
 use lib.Dec.{ltb}
 use lib.ListN.{length, drop}
+use Rattle.lists.specs.InOrder.{inOrder}
 use Rattle.refusals.specs.Rule.{Rule, rule, ruled}
 use Rattle.lent.specs.Placed.{placed}
 use Rattle.frame.specs.Capture.{totalsOf, eventsFrom}
@@ -77,9 +78,8 @@ abbrev pub pieceLeft : List ℕ → Place → List ℕ → List ℕ
 pieceLeft input at buf = ruled (noRoomForLine buf ∷ []) (λ n. buf) (placed buf 0 (pieceOf input at (length buf) .text))
 
 -- all that is yet to come
-unfoldable pub texts : List Given → List ℕ
-texts [] = []
-texts (g ∷ gs) = g .text ++ texts gs
+abbrev pub texts : List Given → List ℕ
+texts gs = inOrder (λ (g : Given). g .text) gs
 
 -- what a number of pieces give out, one after another, each into a buffer of the same size
 unfoldable pub pieces : ℕ → ℕ → List ℕ → Place → List ℕ

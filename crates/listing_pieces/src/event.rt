@@ -20,8 +20,9 @@ ghost use lib.ListN.{length};
 ghost use Rattle.message.specs.declared.content.Content.the-variants as content;
 ghost use Rattle.message.specs.declared.read.FrameReading.the-variants as reading;
 ghost use Rattle.message.specs.declared.read.Message.the-variants as message;
-ghost use Rattle.listing_text.specs.Letters.{letters};
-ghost use Rattle.listing_text.specs.Number.{decimal, hexByte};
+ghost use Rattle.characters.specs.Letters.{letters};
+ghost use Rattle.characters.specs.Decimal.{decimal};
+ghost use Rattle.characters.specs.Hex.{hexByte};
 ghost use Rattle.listing_text.specs.Listing.{valueText, readText, eventText, eventLine};
 ghost use Rattle.listing_pieces.specs.Computed.{Put, behind, answerText, saidBehind};
 

@@ -1,5 +1,4 @@
-// Text for people: numbers and the listing of a capture, written into a lent buffer.
+// The listing of a capture, written into a lent buffer in pieces.
 mod event;
-pub mod number;
 pub mod piece;
 mod put;

@@ -18,7 +18,7 @@ ghost use Prim.Native.Nat.{_+_, _^_, _≤_, _<_};
 ghost use lib.ListN.{length};
 ghost use Rattle.frame.specs.Capture.{captureLimit, eventsFrom, totalsOf};
 ghost use Rattle.lent.specs.Placed.{placed};
-ghost use Rattle.listing_text.specs.Number.{decimal};
+ghost use Rattle.characters.specs.Decimal.{decimal};
 ghost use Rattle.listing_text.specs.Listing.{totalLine};
 ghost use Rattle.listing_pieces.specs.Pieces.{lineLimit, comingEvents, comingFrom, comingRefused, filled, textAs, pieceAnswered, pieceLeft};
 ghost use Rattle.listing_pieces.specs.Computed.{Put, firstText, firstNext, isEnd};
@@ -50,7 +50,8 @@ struct Turn {
 // for one. Begin at the start and go on at the place that is answered; a piece of no bytes is the end. 9 for a
 // buffer of less than 64 bytes, and then it is as it was.
 pub fn list_piece(input: &[u8], place: Place, buf: &mut [u8]) -> Piece
-    ensures { λ r. ⌜ (r ≡ pieceAnswered (now (input .entry)) place (now (buf .entry))) × (now (buf .exit) ≡ pieceLeft (now (input .entry)) place (now (buf .entry))) ⌝ }
+    ensures answers { λ r. ⌜ r ≡ pieceAnswered (now (input .entry)) place (now (buf .entry)) ⌝ }
+    ensures leaves { λ _. ⌜ now (buf .exit) ≡ pieceLeft (now (input .entry)) place (now (buf .entry)) ⌝ }
 {
     if buf.len() < LINE_LIMIT {
         return Piece::Refused(9);
@@ -66,7 +67,8 @@ pub fn list_piece(input: &[u8], place: Place, buf: &mut [u8]) -> Piece
 // Refused input has one line.
 fn list_refusal(number: u8, place: Place, buf: &mut [u8]) -> Piece
     requires { ⌜ lineLimit ≤ length (now buf) ⌝ }
-    ensures { λ r. ⌜ (r ≡ textAs (filled (length (now (buf .entry))) place (comingRefused number place))) × (now (buf .exit) ≡ placed (now (buf .entry)) 0 (filled (length (now (buf .entry))) place (comingRefused number place) .text)) ⌝ }
+    ensures answers { λ r. ⌜ r ≡ textAs (filled (length (now (buf .entry))) place (comingRefused number place)) ⌝ }
+    ensures leaves { λ _. ⌜ now (buf .exit) ≡ placed (now (buf .entry)) 0 (filled (length (now (buf .entry))) place (comingRefused number place) .text) ⌝ }
 {
     match place {
         Place::Start => {
@@ -88,7 +90,8 @@ fn list_lines(
     buf: &mut [u8],
 ) -> Piece
     requires { ⌜ (lineLimit ≤ length (now buf)) × (length (now capture) ≤ captureLimit) ⌝ }
-    ensures { λ r. ⌜ (r ≡ textAs (filled (length (now (buf .entry))) place (comingFrom profile direction (now (capture .entry)) place))) × (now (buf .exit) ≡ placed (now (buf .entry)) 0 (filled (length (now (buf .entry))) place (comingFrom profile direction (now (capture .entry)) place) .text)) ⌝ }
+    ensures answers { λ r. ⌜ r ≡ textAs (filled (length (now (buf .entry))) place (comingFrom profile direction (now (capture .entry)) place)) ⌝ }
+    ensures leaves { λ _. ⌜ now (buf .exit) ≡ placed (now (buf .entry)) 0 (filled (length (now (buf .entry))) place (comingFrom profile direction (now (capture .entry)) place) .text) ⌝ }
 {
     let mut at = 0;
     let mut next = place;

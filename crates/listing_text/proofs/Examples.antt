@@ -12,9 +12,9 @@ use Rattle.row.specs.Signed.{numberOf}
 use Rattle.row.specs.Table.{table, firstRow}
 use Rattle.message.specs.Content.{contentOf}
 use Rattle.message.specs.Message.{readOf, frameRead}
-use Rattle.listing_text.specs.Letters.{letters}
-use Rattle.listing_text.specs.Number.{decimalIn}
-use Rattle.listing_text.specs.Listing.{textLine, eventLines, listed}
+use Rattle.characters.specs.Letters.{letters}
+use Rattle.characters.specs.Decimal.{decimalIn}
+use Rattle.listing_text.specs.Listing.{textLine, listed}
 use Rattle.streams.specs.Stream.{answersBy, readerBy}
 use Rattle.lists.specs.InOrder.{inOrder}
 
@@ -26,19 +26,19 @@ pub worked : listed (0x41 ∷ 0x52 ∷ 0x00 ∷ 0x21 ∷ 0x01 ∷ 0x3A ∷ 0x00 
     ++ letters "8 6 broken - - - -\n"
     ++ letters "14 1 pending - - - -\n"
     ++ letters "total 15 frame 7 broken 6 noise 1 pending 1\n"
-unfolding letters decimalIn textLine eventLines answersBy readerBy answerTo takenAfter inOrder labels count eventsTold eventsFrom directionOf isFrame bytesAt profileOf numberOf table firstRow contentOf readOf frameRead
+unfolding letters decimalIn textLine answersBy readerBy answerTo takenAfter inOrder labels count eventsTold eventsFrom directionOf isFrame bytesAt profileOf numberOf table firstRow contentOf readOf frameRead
 worked = refl
 
 -- an empty capture; letters that are missing or wrong
 pub empty : listed (0x53 ∷ 0x43 ∷ []) ≡ letters "at length event zone code answer value\n" ++ letters "total 0 frame 0 broken 0 noise 0 pending 0\n"
-unfolding letters decimalIn textLine eventLines answersBy readerBy answerTo takenAfter inOrder labels count eventsTold eventsFrom directionOf isFrame bytesAt profileOf numberOf table firstRow contentOf readOf frameRead
+unfolding letters decimalIn textLine answersBy readerBy answerTo takenAfter inOrder labels count eventsTold eventsFrom directionOf isFrame bytesAt profileOf numberOf table firstRow contentOf readOf frameRead
 empty = refl
 
 abbrev refused : List (List ℕ)
 refused = listed [] ∷ listed (0x41 ∷ []) ∷ listed (0x42 ∷ 0x43 ∷ []) ∷ listed (0x41 ∷ 0x20 ∷ 0x43 ∷ []) ∷ []
 
 pub letters-refused : refused ≡ letters "refused 12\n" ∷ letters "refused 12\n" ∷ letters "refused 12\n" ∷ letters "refused 12\n" ∷ []
-unfolding letters decimalIn textLine eventLines answersBy readerBy answerTo takenAfter inOrder labels count eventsTold eventsFrom directionOf isFrame bytesAt profileOf numberOf table firstRow contentOf readOf frameRead
+unfolding letters decimalIn textLine answersBy readerBy answerTo takenAfter inOrder labels count eventsTold eventsFrom directionOf isFrame bytesAt profileOf numberOf table firstRow contentOf readOf frameRead
 letters-refused = refl
 
 -- commands of A: request, on, off, up, Leveller off, a number below zero, a refused frame
@@ -61,7 +61,7 @@ pub commands : listed (
     ++ letters "30 6 frame 1 45 - -10\n"
     ++ letters "36 7 unread - - - 1\n"
     ++ letters "total 43 frame 43 broken 0 noise 0 pending 0\n"
-unfolding letters decimalIn textLine eventLines answersBy readerBy answerTo takenAfter inOrder labels count eventsTold eventsFrom directionOf isFrame bytesAt profileOf numberOf table firstRow contentOf readOf frameRead
+unfolding letters decimalIn textLine answersBy readerBy answerTo takenAfter inOrder labels count eventsTold eventsFrom directionOf isFrame bytesAt profileOf numberOf table firstRow contentOf readOf frameRead
 commands = refl
 
 -- answers of S: an input with its state, not calculated, a denial of what no table has, a refused answer
@@ -78,5 +78,5 @@ pub statuses : listed (
     ++ letters "15 7 denied 255 FE 85 -\n"
     ++ letters "22 7 unread - - - 4\n"
     ++ letters "total 29 frame 29 broken 0 noise 0 pending 0\n"
-unfolding letters decimalIn textLine eventLines answersBy readerBy answerTo takenAfter inOrder labels count eventsTold eventsFrom directionOf isFrame bytesAt profileOf numberOf table firstRow contentOf readOf frameRead
+unfolding letters decimalIn textLine answersBy readerBy answerTo takenAfter inOrder labels count eventsTold eventsFrom directionOf isFrame bytesAt profileOf numberOf table firstRow contentOf readOf frameRead
 statuses = refl

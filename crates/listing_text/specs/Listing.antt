@@ -1,15 +1,18 @@
 -- Document 01, 'Bench frames': what the listing program prints, to the byte.
-use Prim.Native.Nat.{ℕ, suc}
+use Prim.Native.Nat.{ℕ}
 use Prim.Native.String.{String}
 use mathlib.Core.Bool.{cond}
 use mathlib.Core.List.{List, [], _∷_, _++_}
 use lib.Dec.{ltb}
-use lib.IntN.{ℤ, pos, negsuc}
 use lib.ListN.{length, drop}
 use Rattle.refusals.specs.Rule.{rule, ruled}
 use Rattle.frame.specs.Letter.{directionOf}
 use Rattle.frame.specs.Capture.{captureLimit, totalsOf, eventsFrom}
+use Rattle.lists.specs.InOrder.{inOrder}
 use Rattle.lent.specs.Placed.{bytesAt}
+use Rattle.characters.specs.Letters.{letters}
+use Rattle.characters.specs.Decimal.{decimal, integer}
+use Rattle.characters.specs.Hex.{hexByte}
 use Rattle.frame.specs.declared.direction.Direction.{Direction}
 use Rattle.frame.specs.declared.direction.Named as direction
 use Rattle.frame.specs.declared.direction.Named.the-variants as directed
@@ -29,13 +32,6 @@ use Rattle.message.specs.declared.read.FrameReading.the-variants as frame
 use Rattle.message.specs.declared.read.Message.the-variants as message
 use Rattle.listing_text.specs.declared.asked.Asked.{Asked}
 use Rattle.listing_text.specs.declared.asked.Asked.the-variants as asks
-use Rattle.listing_text.specs.Letters.{letters}
-use Rattle.listing_text.specs.Number.{decimal, hexByte}
-
--- "Numbers are decimal": with a minus sign where they are below zero
-abbrev pub integer : ℤ → List ℕ
-integer (pos n) = decimal n
-integer (negsuc n) = letters "-" ++ decimal (suc n)
 
 -- "F0, F1, F2 print request, up, down (A 37: on, off for the last two), toggle toggle, Leveller FF off, S 0F 6:1"
 abbrev pub valueText : Content → List ℕ
@@ -79,9 +75,8 @@ eventText profile dir bytes kind.Pending = without "pending"
 abbrev pub eventLine : Profile → Direction → List ℕ → Event → List ℕ
 eventLine profile dir capture e = textLine (decimal (e .at)) (decimal (e .length) ∷ eventText profile dir (bytesAt capture (e .at) (e .length)) (e .kind))
 
-unfoldable pub eventLines : Profile → Direction → List ℕ → List Event → List ℕ
-eventLines profile dir capture [] = []
-eventLines profile dir capture (e ∷ es) = eventLine profile dir capture e ++ eventLines profile dir capture es
+abbrev pub eventLines : Profile → Direction → List ℕ → List Event → List ℕ
+eventLines profile dir capture es = inOrder (eventLine profile dir capture) es
 
 abbrev pub heading : List ℕ
 heading = letters "at length event zone code answer value\n"

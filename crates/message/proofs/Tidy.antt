@@ -6,6 +6,7 @@ use Prim.Native.Nat.{ℕ, _<_}
 use native.Mathlib.Omega.{arith}
 use borrow.Author.Tests.{eq-eqb, leb-true, not-true}
 use lib.Dec.{eqb, leb}
+use Rattle.lists.specs.Each.{Each}
 use Rattle.frame.specs.declared.direction.Direction.{Direction}
 use Rattle.frame.specs.declared.direction.Direction.the-variants.{Command, Answer}
 use Rattle.row.specs.Profile.{letterOf}
@@ -14,7 +15,7 @@ use Rattle.row.specs.declared.profile.Profile.{Profile}
 use Rattle.row.specs.declared.table.Codes.{Codes}
 use Rattle.row.specs.declared.table.Found.the-variants as found
 use Rattle.row.specs.declared.table.Row.{Row}
-use Rattle.row.proofs.Rows.{Each, each-found}
+use Rattle.row.proofs.Rows.{each-found}
 use Rattle.judging.specs.Judge.{within, isWord}
 use Rattle.message.proofs.Fits.{valueByte, inCommand}
 use Rattle.message.proofs.Tests.{both, upto, upto-at}

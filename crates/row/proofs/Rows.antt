@@ -1,113 +1,92 @@
--- Lines of numbers that write the table out, and how a walk along it finds the first row.
+-- Numbers that write the table out, and how a walk along it finds the first row.
 use mathlib.Core.Path.{_≡_, refl, ap, sym, _∙_, subst}
 use mathlib.Core.Bool.{Bool, true, false, cond, _&&_}
 use mathlib.Core.List.{List, [], _∷_, map}
-use Prim.Native.Nat.{ℕ, suc, _+_, _≤_, _<_}
-use native.Mathlib.Nat.{add-suc, suc-add}
+use Prim.Native.Nat.{ℕ, zero, suc, _+_, _≤_, _<_}
 use native.Mathlib.Numerals.{add-one}
 use native.Mathlib.Omega.{arith}
 use borrow.Author.Tests.{eq-eqb, ne-eqb, eqb-true}
 use lib.Dec.{eqb}
 use lib.ListN.{length, drop, getD, drop-of-length-le, List·getD-map}
 use lib.Seq.{drop-cons}
-use Rattle.row.specs.Table.{table, firstRow, firstPlace}
+use Rattle.lists.specs.Each.{Each}
+use Rattle.row.specs.Table.{inPlaces, table, rowCount, firstRow}
 use Rattle.row.specs.Computed.{rowFrom}
 use Rattle.row.specs.declared.table.Row.{Row}
 use Rattle.row.specs.declared.table.Found.the-variants as found
 
--- lines of numbers, as the code has them, write out the table
+pub row-count : length table ≡ rowCount
+unfolding table
+row-count = refl
+
+-- numbers, as the code has them, write out the table
 pub record WritesOut (ns : List (List ℕ)) : Type 0 where
-  pub all : map rowFrom ns ≡ table
+  pub all : inPlaces 0 (map rowFrom ns) ≡ table
 
-pub row-at : (ns : List (List ℕ)) → WritesOut ns → (i : ℕ) → getD table i (rowFrom []) ≡ rowFrom (getD ns i [])
-row-at ns w i = ap (λ (rs : List Row). getD rs i (rowFrom [])) (sym (w .all)) ∙ List·getD-map rowFrom ns i []
+-- a row at its place says its profile and code there
+from-at : (f : Row → ℕ) → ((n : List ℕ) (p q : ℕ) → f (rowFrom n p) ≡ f (rowFrom n q)) → (ns : List (List ℕ)) (p i : ℕ)
+    → f (getD (inPlaces p (map rowFrom ns)) i (rowFrom [] 0)) ≡ f (rowFrom (getD ns i []) 0)
+from-at f same [] p i = refl
+from-at f same (n ∷ ns) p zero = same n p 0
+from-at f same (n ∷ ns) p (suc i) = from-at f same ns (suc p) i
 
-both : (s t : Bool) → s && t ≡ true → t ≡ true
-both true t e = e
-both false t e = cc
+pub profile-at : (ns : List (List ℕ)) → WritesOut ns → (i : ℕ) → getD table i (rowFrom [] 0) .profile ≡ getD (getD ns i []) 0 0
+profile-at ns w i = ap (λ (rs : List Row). getD rs i (rowFrom [] 0) .profile) (sym (w .all)) ∙ from-at (λ r. r .profile) (λ n p q. refl) ns 0 i
+
+pub code-at : (ns : List (List ℕ)) → WritesOut ns → (i : ℕ) → getD table i (rowFrom [] 0) .code ≡ getD (getD ns i []) 1 0
+code-at ns w i = ap (λ (rs : List Row). getD rs i (rowFrom [] 0) .code) (sym (w .all)) ∙ from-at (λ r. r .code) (λ n p q. refl) ns 0 i
 
 -- does a row answer to a letter and a command
 abbrev isAt : Row → ℕ → ℕ → Bool
 isAt r letter command = eqb (r .profile) letter && eqb (r .code) command
 
--- the first row is the one at the first place; there is none where that is past the end
-pub found-at : (rs : List Row) (letter command : ℕ) (d : Row) → firstPlace rs letter command < length rs
-    → firstRow rs letter command ≡ found.Row (getD rs (firstPlace rs letter command) d)
-unfolding firstRow firstPlace
-found-at [] letter command d h = absurd (omega arith)
-found-at (r ∷ rs) letter command d h = go (isAt r letter command) refl (found-at rs letter command d) where
-  go : (t : Bool) → isAt r letter command ≡ t
-      → (firstPlace rs letter command < length rs → firstRow rs letter command ≡ found.Row (getD rs (firstPlace rs letter command) d))
-      → firstRow (r ∷ rs) letter command ≡ found.Row (getD (r ∷ rs) (firstPlace (r ∷ rs) letter command) d)
-  go true e next = rw e
-  go false e next =
-      let place : firstPlace (r ∷ rs) letter command ≡ suc (firstPlace rs letter command) = rw e in
-      rw e (next (omega (arith, place)))
-
--- that row has the command's code
-pub code-at : (rs : List Row) (letter command : ℕ) (d : Row) → firstPlace rs letter command < length rs → getD rs (firstPlace rs letter command) d .code ≡ command
-unfolding firstPlace
-code-at [] letter command d h = absurd (omega arith)
-code-at (r ∷ rs) letter command d h = go (isAt r letter command) refl (code-at rs letter command d)
-  where
-    go : (t : Bool) → isAt r letter command ≡ t → (firstPlace rs letter command < length rs → getD rs (firstPlace rs letter command) d .code ≡ command)
-        → getD (r ∷ rs) (firstPlace (r ∷ rs) letter command) d .code ≡ command
-    go true e next = rw e (eqb-true (r .code) command (both (eqb (r .profile) letter) (eqb (r .code) command) e))
-    go false e next =
-        let place : firstPlace (r ∷ rs) letter command ≡ suc (firstPlace rs letter command) = rw e in
-        rw e (next (omega (arith, place)))
-
-pub none-at : (rs : List Row) (letter command : ℕ) → length rs ≤ firstPlace rs letter command → firstRow rs letter command ≡ found.NoRow
-unfolding firstRow firstPlace
-none-at [] letter command h = refl
-none-at (r ∷ rs) letter command h = go (isAt r letter command) refl (none-at rs letter command) where
-  go : (t : Bool) → isAt r letter command ≡ t → (length rs ≤ firstPlace rs letter command → firstRow rs letter command ≡ found.NoRow)
-      → firstRow (r ∷ rs) letter command ≡ found.NoRow
-  go true e next =
-      let place : firstPlace (r ∷ rs) letter command ≡ 0 = rw e in
-      absurd (omega (arith, place))
-  go false e next =
-      let place : firstPlace (r ∷ rs) letter command ≡ suc (firstPlace rs letter command) = rw e in
-      rw e (next (omega (arith, place)))
-
 module _ (rs : List Row) (letter command i : ℕ) (d : Row) where
-  pub hit : i < length rs → getD rs i d .profile ≡ letter → getD rs i d .code ≡ command → firstPlace (drop i rs) letter command ≡ 0
-  unfolding firstPlace
+  pub hit : i < length rs → getD rs i d .profile ≡ letter → getD rs i d .code ≡ command → firstRow (drop i rs) letter command ≡ found.Row (getD rs i d)
+  unfolding firstRow
   hit h e f = rw (drop-cons rs i d, eq-eqb _ _ e, eq-eqb _ _ f)
 
-  other : i < length rs → isAt (getD rs i d) letter command ≡ false
-      → i + firstPlace (drop i rs) letter command ≡ (i + 1) + firstPlace (drop (i + 1) rs) letter command
-  unfolding firstPlace
-  other h e = rw (add-one, drop-cons rs i d, e, add-suc, suc-add)
+  other : i < length rs → isAt (getD rs i d) letter command ≡ false → firstRow (drop i rs) letter command ≡ firstRow (drop (i + 1) rs) letter command
+  unfolding firstRow
+  other h e = rw (add-one, drop-cons rs i d, e)
 
-  pub miss-profile : i < length rs → (getD rs i d .profile ≡ letter → ⊥)
-      → i + firstPlace (drop i rs) letter command ≡ (i + 1) + firstPlace (drop (i + 1) rs) letter command
+  pub miss-profile : i < length rs → (getD rs i d .profile ≡ letter → ⊥) → firstRow (drop i rs) letter command ≡ firstRow (drop (i + 1) rs) letter command
   miss-profile h e = other h (rw (ne-eqb _ _ e))
 
   pub miss-code : i < length rs → getD rs i d .profile ≡ letter → (getD rs i d .code ≡ command → ⊥)
-      → i + firstPlace (drop i rs) letter command ≡ (i + 1) + firstPlace (drop (i + 1) rs) letter command
+      → firstRow (drop i rs) letter command ≡ firstRow (drop (i + 1) rs) letter command
   miss-code h e f = other h (rw (eq-eqb _ _ e, ne-eqb _ _ f))
 
-  pub passed : length rs ≤ i → firstPlace (drop i rs) letter command ≡ 0
-  unfolding firstPlace
+  pub passed : length rs ≤ i → firstRow (drop i rs) letter command ≡ found.NoRow
+  unfolding firstRow
   passed h = rw (drop-of-length-le rs {i = i} h)
 
--- what holds of every row holds of the one that is found
-abbrev pub Each : (Row → Type 0) → List Row → Type 0
-Each P [] = Unit {0}
-Each P (r ∷ rs) = P r × Each P rs
+none-some : (x : Row) → found.NoRow ≡ found.Row x → ⊥
+none-some x f = let z : _≡_ {A = ℕ} 0 1 = cc in omega arith
 
+same : (x r : Row) → found.Row x ≡ found.Row r → x ≡ r
+same x r f = cc
+
+-- what holds of every row holds of the one that is found
 pub each-found : (P : Row → Type 0) (rs : List Row) (letter command : ℕ) (r : Row) → Each P rs → firstRow rs letter command ≡ found.Row r → P r
 unfolding firstRow
 each-found P [] letter command r all e = absurd (none-some r e)
-  where
-    none-some : (x : Row) → found.NoRow ≡ found.Row x → ⊥
-    none-some x f = let z : _≡_ {A = ℕ} 0 1 = cc in omega arith
 each-found P (x ∷ rs) letter command r all e = go (isAt x letter command) (each-found P rs letter command r (all .1)) e
   where
-    same : found.Row x ≡ found.Row r → x ≡ r
-    same f = cc
-
     go : (t : Bool) → (firstRow rs letter command ≡ found.Row r → P r) → cond t (found.Row x) (firstRow rs letter command) ≡ found.Row r → P r
-    go true next f = subst P (same f) (all .0)
+    go true next f = subst P (same x r f) (all .0)
     go false next f = next f
+
+both : (s t : Bool) → s && t ≡ true → t ≡ true
+both true t e = e
+both false t e = cc
+
+-- the row that is found has the command's code
+pub code-found : (rs : List Row) (letter command : ℕ) (r : Row) → firstRow rs letter command ≡ found.Row r → r .code ≡ command
+unfolding firstRow
+code-found [] letter command r e = absurd (none-some r e)
+code-found (x ∷ rs) letter command r e = go (isAt x letter command) refl (code-found rs letter command r) e
+  where
+    go : (t : Bool) → isAt x letter command ≡ t → (firstRow rs letter command ≡ found.Row r → r .code ≡ command)
+        → cond t (found.Row x) (firstRow rs letter command) ≡ found.Row r → r .code ≡ command
+    go true here next f = ap (λ (y : Row). y .code) (sym (same x r f)) ∙ eqb-true (x .code) command (both (eqb (x .profile) letter) (eqb (x .code) command) here)
+    go false here next f = next f

@@ -12,9 +12,10 @@ use Rattle.row.specs.declared.table.Row.{Row}
 abbrev pub codesIf : Bool → ℕ → ℕ → Codes
 codesIf has low high = cond has (low ⋯ high) none
 
--- the row that a line of numbers writes out
-abbrev pub rowFrom : List ℕ → Row
-rowFrom n = record {
+-- the row that its numbers write out, at a place of the table
+abbrev pub rowFrom : List ℕ → ℕ → Row
+rowFrom n place = record {
+  place = place;
   profile = getD n 0 0;
   code = getD n 1 0;
   zones = getD n 2 0;

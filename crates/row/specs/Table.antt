@@ -52,9 +52,10 @@ abbrev pub has : List Mark → Mark → Bool
 has [] m = false
 has (n ∷ ns) m = eqb (markNumber n) (markNumber m) || has ns m
 
--- a row: profile, code, its zones (1 to this), setting codes and answer codes in two ranges each, and its marks
-abbrev pub row : Profile → ℕ → ℕ → Codes → Codes → Codes → Codes → List Mark → Row
-row p code zones set set′ ans ans′ marks = record {
+-- a row: profile, code, its zones (1 to this), setting codes and answer codes in two ranges each, and its marks; it knows its place in the table
+abbrev pub row : Profile → ℕ → ℕ → Codes → Codes → Codes → Codes → List Mark → ℕ → Row
+row p code zones set set′ ans ans′ marks place = record {
+  place = place;
   profile = letterOf p;
   code = code;
   zones = zones;
@@ -72,9 +73,15 @@ row p code zones set set′ ans ans′ marks = record {
   sheet = has marks †;
 }
 
+-- rows at their places, from one on
+abbrev pub inPlaces : ℕ → List (ℕ → Row) → List Row
+inPlaces place [] = []
+inPlaces place (r ∷ rs) = r place ∷ inPlaces (suc place) rs
+
 unfoldable pub table : List Row
 table =
-    row A 0x0F 1 none none (0x00 ⋯ 0x01) none (request ∷ [])  -- direct
+    inPlaces 0
+    (row A 0x0F 1 none none (0x00 ⋯ 0x01) none (request ∷ [])  -- direct
     ∷ row A 0x10 1 none none (0x00 ⋯ 0x08) none (request ∷ [])  -- decode 2ch
     ∷ row A 0x11 1 none none (0x00 ⋯ 0x05) none (request ∷ [])  -- decode MCH
     ∷ row A 0x37 3 none none (0x00 ⋯ 0x02) none (request ∷ switch ∷ [])  -- room EQ
@@ -93,7 +100,11 @@ table =
     ∷ row S 0x5A 2 none none (0x00 ⋯ 0x01) none (request ∷ [])  -- input detect
     ∷ row S 0x5B 2 (0x00 ⋯ 0x00) (0x02 ⋯ 0x09) (0x00 ⋯ 0x00) (0x02 ⋯ 0x09) († ∷ request ∷ [])  -- processor input
     ∷ row S 0x5C 2 (0x00 ⋯ 0x63) none (0x00 ⋯ 0x63) none († ∷ request ∷ [])  -- processor volume
-    ∷ []
+    ∷ [])
+
+-- as many rows as the table has
+abbrev pub rowCount : ℕ
+rowCount = 19
 
 -- the first of some rows that a profile has for a command, or none
 unfoldable pub firstRow : List Row → ℕ → ℕ → Found
@@ -104,12 +115,3 @@ firstRow (r ∷ rs) letter command =
 -- the row that a profile has for a command; 2: "command without a row in the profile"
 abbrev pub rowOf : Profile → ℕ → Found
 rowOf p command = firstRow table (letterOf p) command
-
--- the place of that row in the table; the count of rows where there is none
-unfoldable pub firstPlace : List Row → ℕ → ℕ → ℕ
-firstPlace [] letter command = 0
-firstPlace (r ∷ rs) letter command =
-    cond (eqb (r .profile) letter && eqb (r .code) command) 0 (suc (firstPlace rs letter command))
-
-abbrev pub placeOf : Profile → ℕ → ℕ
-placeOf p command = firstPlace table (letterOf p) command

@@ -4,7 +4,7 @@ ghost use mathlib.Core.Path.{_≡_};
 ghost use mathlib.Core.List.{[]};
 ghost use Prim.Native.Nat.{_<_};
 ghost use lib.ListN.{getD};
-ghost use Rattle.row.specs.Table.{table, rowOf, placeOf};
+ghost use Rattle.row.specs.Table.{table, rowCount, rowOf};
 ghost use Rattle.row.specs.Computed.{codesIf, rowFrom};
 
 // Codes from low to high; none where low is above high.
@@ -15,6 +15,8 @@ pub struct Codes {
 
 // A row of document 01's table: what a command may hold, and what an answer may.
 pub struct Row {
+    // its place in the table, from 0
+    pub place: usize,
     // the profile's letter
     pub profile: u8,
     pub code: u8,
@@ -49,10 +51,13 @@ pub enum Found {
     NoRow,
 }
 
-// A line for each row: profile, code, zones; which of its answer codes a command sets (0 none, 1 those
+// How many rows the table has.
+pub const ROW_COUNT: usize = 19;
+
+// The numbers of each row: profile, code, zones; which of its answer codes a command sets (0 none, 1 those
 // of the first range, 2 of both); the answer codes, from and to, twice (1 to 0: none); request; F1 and
 // F2 (1 up and down, 2 on and off) or 02 (3 toggle); pair; signed; off; sheet.
-const ROWS: [[u8; 14]; 19] = [
+const ROWS: [[u8; 14]; ROW_COUNT] = [
     [b'A', 0x0F, 1, 0, 0x00, 0x01, 1, 0, 1, 0, 0, 0, 0, 0], // direct
     [b'A', 0x10, 1, 0, 0x00, 0x08, 1, 0, 1, 0, 0, 0, 0, 0], // decode 2ch
     [b'A', 0x11, 1, 0, 0x00, 0x05, 1, 0, 1, 0, 0, 0, 0, 0], // decode MCH
@@ -74,44 +79,30 @@ const ROWS: [[u8; 14]; 19] = [
     [b'S', 0x5C, 2, 1, 0x00, 0x63, 1, 0, 1, 0, 0, 0, 0, 1], // processor volume
 ];
 
-// How many rows the table has.
-pub const ROW_COUNT: usize = 19;
-
 // The row that a profile has for a command.
 pub fn find_row(profile: Profile, command: u8) -> Found
     ensures { λ r. ⌜ r ≡ rowOf profile command ⌝ }
 {
-    let place = row_place(profile, command);
-    if ROW_COUNT <= place {
-        return Found::NoRow;
-    }
-    Found::Row(row_from(line_at(place)))
-}
-
-// The place in the table of the row that a profile has for a command; the count of rows where it has none.
-pub fn row_place(profile: Profile, command: u8) -> usize
-    ensures { λ r. ⌜ r ≡ placeOf profile command ⌝ }
-{
     let letter = letter_of(profile);
     let rows = ROWS;
     let mut i = 0;
-    while i < 19 {
+    while i < ROW_COUNT {
         let numbers = rows[i];
         if numbers[0] == letter {
             if numbers[1] == command {
-                return i;
+                return Found::Row(row_from(numbers_at(i), i));
             }
         }
         i += 1;
     }
-    ROW_COUNT
+    Found::NoRow
 }
 
-// A line of the table. The places are written out, so that the compiler takes each line as a constant: where it does
+// The numbers of a row. The places are written out, so that the compiler takes the numbers as constants: where it does
 // not know the place it builds the whole table in memory, at each call.
-fn line_at(place: usize) -> [u8; 14]
-    requires { ⌜ place < 19 ⌝ }
-    ensures { λ r. ⌜ rowFrom r ≡ getD table place (rowFrom []) ⌝ }
+fn numbers_at(place: usize) -> [u8; 14]
+    requires { ⌜ place < rowCount ⌝ }
+    ensures { λ r. ⌜ rowFrom r place ≡ getD table place (rowFrom [] 0) ⌝ }
 {
     let rows = ROWS;
     match place {
@@ -137,11 +128,12 @@ fn line_at(place: usize) -> [u8; 14]
     }
 }
 
-// The row that a line of the table writes out.
-fn row_from(numbers: [u8; 14]) -> Row
-    ensures { λ r. ⌜ r ≡ rowFrom numbers ⌝ }
+// The row that its numbers write out, at a place of the table.
+fn row_from(numbers: [u8; 14], place: usize) -> Row
+    ensures { λ r. ⌜ r ≡ rowFrom numbers place ⌝ }
 {
     Row {
+        place: place,
         profile: numbers[0],
         code: numbers[1],
         zones: numbers[2],

@@ -1,7 +1,5 @@
 -- Proofs about the sign-off: captures, refusals, one answer for each function, and computed witnesses.
 pub mod Signs
-pub mod Captures
-pub mod Frames
 pub mod CaptureSigns
 pub mod Refusals
 pub mod OneAnswer

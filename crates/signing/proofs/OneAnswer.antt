@@ -5,19 +5,16 @@ use Prim.Native.Nat.{ℕ}
 use Rattle.refusals.specs.OneAnswer.{OneAnswer}
 use Rattle.refusals.proofs.One.{one}
 use Rattle.row.specs.Profile.{profileOf}
-use Rattle.row.specs.Table.{placeOf}
 use Rattle.row.specs.declared.profile.Profile.{Profile}
 use Rattle.sheet.specs.Sheet.{linesOf}
 use Rattle.sheet.specs.declared.sheet.Sheet.{Sheet}
 use Rattle.tracker.specs.Tracker.{freshTracker, keptIn}
 use Rattle.tracker.specs.Feed.{answerFed}
 use Rattle.signing.specs.Sign.{signOff}
-use Rattle.signing.specs.Capture.{captureFed, captureSigned}
+use Rattle.tracker.specs.Capture.{captureFed}
+use Rattle.signing.specs.Capture.{captureSigned}
 use Rattle.signing.specs.ByLetter.{fileSignedBy, captureCellBy}
 use Rattle.tracker.specs.declared.tracker.Tracker.{Tracker}
-
-pub row-place-one : (profile : Profile) (command : ℕ) → OneAnswer (λ x. x ≡ placeOf profile command)
-row-place-one profile command = one (placeOf profile command)
 
 pub new-tracker-one : (profile : Profile) → OneAnswer (λ x. x ≡ freshTracker profile)
 new-tracker-one profile = one (freshTracker profile)

@@ -7,7 +7,7 @@ use borrow.Author.Tests.{ne-eqb, lt-ltb, le-ltb, ltb-true, ltb-false}
 use lib.Dec.{ltb}
 use lib.ListN.{length}
 use Rattle.refusals.specs.Rule.{ruled}
-use Rattle.frame.specs.Capture.{captureLimit}
+use Rattle.frame.specs.Capture.{captureLimit, longCapture}
 use Rattle.row.specs.Profile.{profileOf}
 use Rattle.row.specs.declared.profile.Profile.{Profile}
 use Rattle.row.specs.declared.profile.Named.the-variants as named
@@ -22,7 +22,8 @@ use Rattle.sheetfile.proofs.Plains.{said, both, sheet-read}
 use Rattle.tracker.specs.Tracker.{freshTracker, keptIn}
 use Rattle.tracker.specs.Feed.{answersFed}
 use Rattle.signing.specs.Sign.{allHold, signedBy}
-use Rattle.signing.specs.Capture.{broughtBy, longCapture, captureFed, captureSigned}
+use Rattle.tracker.specs.Capture.{broughtBy, captureFed}
+use Rattle.signing.specs.Capture.{captureSigned}
 use Rattle.tracker.specs.Numbers.{keptState, keptByte}
 use Rattle.signing.specs.ByLetter.{fileSigned, shownCell, captureCell, captureCellNumber, captureCellState, captureCellByte}
 use Rattle.signing.specs.SignByLetterPromise.{SignByLetterPromise, SignOtherLetter}
@@ -30,11 +31,12 @@ use Rattle.tracker.specs.declared.tracker.Kept.{Kept}
 use Rattle.tracker.specs.declared.tracker.Kept.the-variants as kept
 use Rattle.tracker.specs.declared.tracker.Tracker.{Tracker}
 use Rattle.signing.specs.declared.sign.Signed.the-variants as signed
-use Rattle.signing.specs.declared.capture.CaptureFed.{CaptureFed}
-use Rattle.signing.specs.declared.capture.CaptureAnswer.the-variants as answer
+use Rattle.tracker.specs.declared.capture.CaptureFed.{CaptureFed}
+use Rattle.tracker.specs.declared.capture.CaptureAnswer.the-variants as answer
+use Rattle.tracker.proofs.Captures.{fed-long, fed-short}
 use Rattle.signing.specs.declared.by_letter.CaptureCell.the-variants as cell
 use Rattle.signing.proofs.Signs.{its-verdict}
-use Rattle.signing.proofs.CaptureSigns.{fed-not, same-number, fed-long, fed-short, short}
+use Rattle.signing.proofs.CaptureSigns.{fed-not, same-number, short}
 use Rattle.signing.proofs.Together.{capture-together}
 
 module _ (profile : Profile) (file capture : List ℕ) where
@@ -90,12 +92,13 @@ plain-promise letter profile n capture = record {
   signs = λ ls.
       let t = answersFed (freshTracker profile) (broughtBy capture) in
       rw (n, trip-verdict profile ls, trip-lines profile ls)
-      (ap (λ (v : Verdict). ruled (longCapture capture ∷ []) (λ m. signed.Refused m 0) (signedBy v (allHold t ls))) (sym (its-verdict profile (broughtBy capture) ls)));
+      (ap (λ (v : Verdict). ruled (longCapture (length capture) ∷ []) (λ m. signed.Refused m 0) (signedBy v (allHold t ls))) (sym (its-verdict profile (broughtBy capture) ls)));
   shows = λ h zone command.
       rw (n, le-ltb captureLimit (length capture) h) (shown-state (keptIn (answersFed (freshTracker profile) (broughtBy capture)) zone command));
-  eleven = λ h file zone command. rw (n, lt-ltb captureLimit (length capture) h) (refl, refl);
+  refused = λ h file m i e. rw (n, le-ltb captureLimit (length capture) h, e) (refl, refl, refl);
+  eleven = λ h file zone command. rw (n, lt-ltb captureLimit (length capture) h) ((refl, refl, refl), (refl, refl, refl));
 }
 
 pub plain-letter : (letter : ℕ) (file capture : List ℕ) (zone command : ℕ) → SignOtherLetter letter file capture zone command
 unfolding profileOf
-plain-letter letter file capture zone command = record { twelve = λ a s. rw (ne-eqb letter 0x41 a, ne-eqb letter 0x53 s) (refl, refl, refl) }
+plain-letter letter file capture zone command = record { twelve = λ a s. rw (ne-eqb letter 0x41 a, ne-eqb letter 0x53 s) ((refl, refl, refl), (refl, refl, refl)) }

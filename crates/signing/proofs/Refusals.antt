@@ -14,17 +14,19 @@ use Rattle.judging.specs.Judge.{judgeRules}
 use Rattle.judging.proofs.Judges.{first-number, judge-numbers}
 use Rattle.message.specs.Message.{isDenial, wrongCode, readRules}
 use Rattle.message.specs.Numbers.{readingNumber, readingPaper, zeroPaper}
+use Rattle.message.specs.declared.read.Message.the-variants as message
 use Rattle.message.specs.declared.read.Reading.{Reading}
 use Rattle.message.specs.declared.read.Reading.the-variants as reading
 use Rattle.message.proofs.Order.{order-promise}
-use Rattle.tracker.specs.Feed.{toldBy}
+use Rattle.tracker.specs.Feed.{told}
 use Rattle.tracker.specs.FeedPromise.{answerRead}
-use Rattle.signing.specs.Numbers.{signedNumber, signedPlace, signedYes, captureNumber}
+use Rattle.tracker.specs.Numbers.{captureNumber}
+use Rattle.signing.specs.Numbers.{signedNumber, signedPlace, signedYes}
 use Rattle.signing.specs.SignRefusalPromise.{SignRefusalPromise}
 use Rattle.tracker.specs.declared.tracker.Tracker.{Tracker}
-use Rattle.signing.specs.declared.capture.CaptureFed.{CaptureFed}
+use Rattle.tracker.proofs.Captures.{fed-promise}
 use Rattle.signing.proofs.Signs.{sign-promise}
-use Rattle.signing.proofs.CaptureSigns.{fed-long, capture-promise}
+use Rattle.signing.proofs.CaptureSigns.{capture-promise}
 
 -- the rules of an answer have the numbers 1 to 5
 abbrev OneToFive : ℕ → Type 0
@@ -41,8 +43,10 @@ rules-numbered profile zone command ac body = go (isDenial ac)
     )
 
 -- a refused answer, whatever the first byte of its data is
-kept : (t : Tracker) (r : Reading) (b : ℕ) (body : List ℕ) → (readingNumber r ≡ 0 → ⊥) → (toldBy t r b ≡ t) × (readingPaper (toldBy t r b .profile) r body ≡ zeroPaper)
-kept t (reading.Message m) b body e = absurd (e refl)
+kept : (t : Tracker) (r : Reading) (b : ℕ) (body : List ℕ) → (readingNumber r ≡ 0 → ⊥) → (told t r b ≡ t) × (readingPaper (told t r b .profile) r body ≡ zeroPaper)
+kept t (reading.Message (message.Command s)) b body e = absurd (e refl)
+kept t (reading.Message (message.Status s)) b body e = absurd (e refl)
+kept t (reading.Message (message.Denied d)) b body e = absurd (e refl)
 kept t (reading.Refused n) b body e = (refl, refl)
 
 pub refusal-promise : (t : Tracker) → SignRefusalPromise t
@@ -55,11 +59,11 @@ refusal-promise t = record {
   sheet = λ ls n i e.
       let r = sign-promise t ls .refused n i e in
       (ap signedNumber r, ap signedPlace r, ap signedYes r);
-  long = λ capture h. let r = fed-long t capture h in (ap (λ (f : CaptureFed). captureNumber (f .answer)) r, ap (λ (f : CaptureFed). f .tracker) r);
+  long = λ capture h. let r = fed-promise t capture .long h in (ap captureNumber (r .1), r .0);
   long-signed = λ profile ls capture h.
       let r = capture-promise profile ls capture .long h in
       (ap signedNumber r, ap signedPlace r, ap signedYes r);
   yes = λ ls e. (ap signedNumber e, ap signedPlace e, ap signedYes e);
   no = λ ls e. (ap signedNumber e, ap signedPlace e, ap signedYes e);
-  fed = λ capture h. ap captureNumber (capture-promise (t .profile) [] capture .fed h t .1);
+  fed = λ capture h. ap captureNumber (fed-promise t capture .fed h .1);
 }

@@ -8,7 +8,10 @@ use native.Mathlib.Omega.{arith}
 use borrow.Author.Tests.{eq-eqb, eqb-true}
 use lib.ListN.{length, take, drop, getD, drop-of-length-le}
 use lib.Seq.{length-take-le}
+use Rattle.lists.specs.Each.{Each}
+use Rattle.lists.proofs.Each.{each-map}
 use Rattle.row.specs.declared.profile.Profile.{Profile}
+use Rattle.row.specs.declared.table.Row.{Row}
 use Rattle.sheet.specs.Sheet.{sheetLimit, linesOf}
 use Rattle.sheet.specs.Check.{sheetVerdict}
 use Rattle.sheet.specs.SheetPromise.{AllSound}
@@ -19,19 +22,18 @@ use Rattle.sheet.specs.declared.check.Verdict.the-variants as verdict
 use Rattle.sheet.proofs.Faults.{first-many}
 use Rattle.sheet.proofs.Sheets.{sheet-promise}
 use Rattle.sheet.proofs.Repeats.{here}
-use Rattle.tracker.specs.Cell.{cellOf}
-use Rattle.tracker.specs.Tracker.{freshTracker, keptAt, keptIn}
+use Rattle.tracker.specs.CellPromise.{HasCell}
+use Rattle.tracker.specs.Tracker.{freshTracker, keptIn}
 use Rattle.tracker.specs.Feed.{BroughtAnswer, answersFed}
 use Rattle.signing.specs.Sign.{holdsIn, holds, allHold, yesOrNo, signedBy}
-use Rattle.tracker.specs.HistoryPromise.{NoneOf, Last, HistoryPromise}
-use Rattle.signing.specs.SignPromise.{AllHold, AllAnswered, SignPromise, SignHistoryPromise}
-use Rattle.tracker.specs.declared.cell.Cell.{Cell}
-use Rattle.tracker.specs.declared.cell.Cell.the-variants as cell
+use Rattle.tracker.specs.HistoryPromise.{IsStatus, Last, HistoryPromise}
+use Rattle.signing.specs.SignPromise.{IsHeld, IsAnswered, SignPromise, SignHistoryPromise}
 use Rattle.tracker.specs.declared.tracker.Tracker.{Tracker}
 use Rattle.tracker.specs.declared.tracker.Kept.{Kept}
 use Rattle.tracker.specs.declared.tracker.Kept.the-variants as kept
 use Rattle.signing.specs.declared.sign.Signed.the-variants.{Yes, No}
-use Rattle.tracker.proofs.Cells.{legal-cell}
+use Rattle.tracker.proofs.Cells.{cell-or-none, legal-cell}
+use Rattle.tracker.proofs.Keeps.{none-kept}
 use Rattle.tracker.proofs.History.{all-profile, history-promise}
 
 -- an accepted sheet has no more lines than there is room for
@@ -64,7 +66,7 @@ holds-only (kept.Value b) v e = ap kept.Value (eqb-true b v e)
 holds-only kept.Unknown v e = let z : _≡_ {A = ℕ} 0 1 = cc in absurd (omega arith)
 holds-only kept.NoCell v e = let z : _≡_ {A = ℕ} 0 1 = cc in absurd (omega arith)
 
-all-if : (t : Tracker) (ls : List Line) → AllHold t ls → allHold t ls ≡ true
+all-if : (t : Tracker) (ls : List Line) → Each (IsHeld t) ls → allHold t ls ≡ true
 unfolding allHold
 all-if t [] w = refl
 all-if t (l ∷ ls) w = rw (holds-if t l (w .0), all-if t ls (w .1))
@@ -73,7 +75,7 @@ and-true : (a b : Bool) → a && b ≡ true → (a ≡ true) × (b ≡ true)
 and-true true b e = (refl, e)
 and-true false b e = let z : _≡_ {A = ℕ} 0 1 = cc in absurd (omega arith)
 
-all-only : (t : Tracker) (ls : List Line) → allHold t ls ≡ true → AllHold t ls
+all-only : (t : Tracker) (ls : List Line) → allHold t ls ≡ true → Each (IsHeld t) ls
 unfolding allHold
 all-only t [] e = tt
 all-only t (l ∷ ls) e =
@@ -85,7 +87,7 @@ yes-only verdict.Accepted true e = (refl, refl)
 yes-only verdict.Accepted false e = let z : _≡_ {A = ℕ} 0 1 = cc in absurd (omega arith)
 yes-only (verdict.Refused n i) b e = let z : _≡_ {A = ℕ} 0 1 = cc in absurd (omega arith)
 
-no-when : (t : Tracker) (ls : List Line) → (AllHold t ls → ⊥) → yesOrNo (allHold t ls) ≡ No
+no-when : (t : Tracker) (ls : List Line) → (Each (IsHeld t) ls → ⊥) → yesOrNo (allHold t ls) ≡ No
 no-when t ls w = go (allHold t ls) refl
   where
     go : (b : Bool) → allHold t ls ≡ b → yesOrNo b ≡ No
@@ -115,13 +117,12 @@ module _ (profile : Profile) (fs : List BroughtAnswer) where
   no-cell-not b e = let z : _≡_ {A = ℕ} 0 1 = cc in omega arith
 
   -- what has no cell is not known
-  known-cell : (zone command b : ℕ) → keptIn t zone command ≡ kept.Value b → (i : ℕ) × (cellOf profile zone command ≡ cell.At i)
-  unfolding keptIn
-  known-cell zone command b e = go (cellOf profile zone command) (ap (λ (p : Profile). keptAt t (cellOf p zone command) command) (sym (all-profile profile fs)) ∙ e)
+  known-cell : (zone command b : ℕ) → keptIn t zone command ≡ kept.Value b → (row : Row) × HasCell profile zone command row
+  known-cell zone command b e = go (cell-or-none profile zone command)
     where
-      go : (k : Cell) → keptAt t k command ≡ kept.Value b → (i : ℕ) × (k ≡ cell.At i)
-      go (cell.At i) f = (i, refl)
-      go cell.NoCell f = absurd (no-cell-not b f)
+      go : ((row : Row) × HasCell profile zone command row) ⊎ ((row : Row) → HasCell profile zone command row → ⊥) → (row : Row) × HasCell profile zone command row
+      go (inl h) = h
+      go (inr none) = absurd (no-cell-not b (sym (none-kept t zone command (rw (all-profile profile fs) none)) ∙ e))
 
   known-last : (zone command b : ℕ) → keptIn t zone command ≡ kept.Value b → Last profile zone command fs b
   known-last zone command b e =
@@ -129,17 +130,16 @@ module _ (profile : Profile) (fs : List BroughtAnswer) where
       let h = history-promise profile zone command (c .0) (c .1) fs in
       go h (h .either)
     where
-      go : {i : ℕ} {k : cellOf profile zone command ≡ cell.At i} → HistoryPromise profile zone command i k fs
-          → NoneOf profile zone command fs ⊎ ((x : ℕ) × Last profile zone command fs x) → Last profile zone command fs b
+      go : {row : Row} {has : HasCell profile zone command row} → HistoryPromise profile zone command row has fs
+          → Each (λ (a : BroughtAnswer). IsStatus profile zone command a → ⊥) fs ⊎ ((x : ℕ) × Last profile zone command fs x) → Last profile zone command fs b
       go h (inl none) = absurd (unknown-not b (sym (h .unknown none) ∙ e))
       go h (inr l) = subst (λ (x : ℕ). Last profile zone command fs x) (same (l .0) b (sym (h .last (l .0) (l .1)) ∙ e)) (l .1)
 
-  all-last : (ls : List Line) → AllHold t ls → AllAnswered profile fs ls
-  all-last [] w = tt
-  all-last (l ∷ ls) w = (known-last (l .zone) (l .command) (l .value) (w .0), all-last ls (w .1))
+  all-last : (ls : List Line) → Each (IsHeld t) ls → Each (IsAnswered profile fs) ls
+  all-last ls w = each-map (IsHeld t) (IsAnswered profile fs) ls (λ l h. known-last (l .zone) (l .command) (l .value) h) w
 
   -- each line of an accepted sheet has a cell, and so the last status answer of it is known
-  all-known : (earlier ls : List Line) → AllSound profile earlier ls → AllAnswered profile fs ls → AllHold t ls
+  all-known : (earlier ls : List Line) → AllSound profile earlier ls → Each (IsAnswered profile fs) ls → Each (IsHeld t) ls
   all-known earlier [] s w = tt
   all-known earlier (l ∷ ls) s w =
       let c = legal-cell profile l (s .0 .0) in
@@ -149,9 +149,10 @@ module _ (profile : Profile) (fs : List BroughtAnswer) where
   pub its-verdict : (ls : List Line) → sheetVerdict (t .profile) ls ≡ sheetVerdict profile ls
   its-verdict ls = ap (λ (p : Profile). sheetVerdict p ls) (all-profile profile fs)
 
-  pub signed-promise : (ls : List Line) → SignHistoryPromise profile fs ls
-  signed-promise ls = record {
-    answered = λ e. all-last ls (sign-promise t ls .only e .1);
-    signed = λ a w. sign-promise t ls .yes (its-verdict ls ∙ a) (all-known [] ls (sheet-promise profile ls .only a .1) w);
-    unsigned = λ a w. sign-promise t ls .no (its-verdict ls ∙ a) (λ hold. w (all-last ls hold));
+  pub sign-history-promise : (ls : List Line) → SignHistoryPromise profile fs ls
+  sign-history-promise ls = record {
+    refused = λ n i e. sign-promise t ls .refused n i (its-verdict ls ∙ e);
+    yes = λ a w. sign-promise t ls .yes (its-verdict ls ∙ a) (all-known [] ls (sheet-promise profile ls .only a .1) w);
+    no = λ a w. sign-promise t ls .no (its-verdict ls ∙ a) (λ hold. w (all-last ls hold));
+    only = λ e. let w = sign-promise t ls .only e in (sym (its-verdict ls) ∙ w .0, all-last ls (w .1));
   }

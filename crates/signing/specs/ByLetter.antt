@@ -2,7 +2,9 @@
 -- then the file's refusals.
 use Prim.Native.Nat.{ℕ}
 use mathlib.Core.List.{List, [], _∷_}
+use lib.ListN.{length}
 use Rattle.refusals.specs.Rule.{ruled}
+use Rattle.frame.specs.Capture.{longCapture}
 use Rattle.row.specs.declared.profile.Profile.{Profile}
 use Rattle.row.specs.declared.profile.Named.{Named}
 use Rattle.row.specs.declared.profile.Named.the-variants as named
@@ -10,7 +12,7 @@ use Rattle.sheetfile.specs.File.{records, linesIn, fileVerdict}
 use Rattle.tracker.specs.Tracker.{freshTracker, keptIn}
 use Rattle.tracker.specs.Feed.{answersFed}
 use Rattle.signing.specs.Sign.{allHold, signedBy}
-use Rattle.signing.specs.Capture.{broughtBy, longCapture}
+use Rattle.tracker.specs.Capture.{broughtBy}
 use Rattle.tracker.specs.declared.tracker.Kept.{Kept}
 use Rattle.tracker.specs.declared.tracker.Kept.the-variants as kept
 use Rattle.signing.specs.declared.sign.Signed.{Signed}
@@ -20,7 +22,7 @@ use Rattle.signing.specs.declared.by_letter.CaptureCell.the-variants as 
 
 abbrev pub fileSigned : Profile → List ℕ → List ℕ → Signed
 fileSigned profile file capture =
-    ruled (longCapture capture ∷ []) (λ n. signed.Refused n 0)
+    ruled (longCapture (length capture) ∷ []) (λ n. signed.Refused n 0)
     (signedBy (fileVerdict profile file) (allHold (answersFed (freshTracker profile) (broughtBy capture)) (linesIn (records file))))
 
 abbrev pub fileSignedBy : Named → List ℕ → List ℕ → Signed
@@ -35,7 +37,7 @@ shownCell kept.NoCell = cell.NoCell
 
 abbrev pub captureCell : Profile → List ℕ → ℕ → ℕ → CaptureCell
 captureCell profile capture zone command =
-    ruled (longCapture capture ∷ []) cell.Refused (shownCell (keptIn (answersFed (freshTracker profile) (broughtBy capture)) zone command))
+    ruled (longCapture (length capture) ∷ []) cell.Refused (shownCell (keptIn (answersFed (freshTracker profile) (broughtBy capture)) zone command))
 
 abbrev pub captureCellBy : Named → List ℕ → ℕ → ℕ → CaptureCell
 captureCellBy (named.Profile profile) capture zone command = captureCell profile capture zone command

@@ -2,8 +2,9 @@
 -- cell is known and equal; and that is exactly when each line's value is that of the last status answer of its zone and row, among
 -- the answers fed in since the tracker was made new.
 use mathlib.Core.Path.{_≡_}
-use mathlib.Core.List.{List, [], _∷_}
+use mathlib.Core.List.{List}
 use Prim.Native.Nat.{ℕ}
+use Rattle.lists.specs.Each.{Each}
 use Rattle.row.specs.declared.profile.Profile.{Profile}
 use Rattle.sheet.specs.Check.{sheetVerdict}
 use Rattle.sheet.specs.declared.line.Line.{Line}
@@ -16,24 +17,23 @@ use Rattle.tracker.specs.declared.tracker.Tracker.{Tracker}
 use Rattle.tracker.specs.declared.tracker.Kept.the-variants.{Value}
 use Rattle.signing.specs.declared.sign.Signed.the-variants.{Yes, No, Refused}
 
--- every line's cell is known and equal
-abbrev pub AllHold : Tracker → List Line → Type 0
-AllHold t [] = Unit {0}
-AllHold t (l ∷ ls) = (keptIn t (l .zone) (l .command) ≡ Value (l .value)) × AllHold t ls
+-- a line's cell is known and equal
+abbrev pub IsHeld : Tracker → Line → Type 0
+IsHeld t l = keptIn t (l .zone) (l .command) ≡ Value (l .value)
 
--- every line's value is that of the last status answer of its zone and row
-abbrev pub AllAnswered : Profile → List BroughtAnswer → List Line → Type 0
-AllAnswered profile fs [] = Unit {0}
-AllAnswered profile fs (l ∷ ls) = Last profile (l .zone) (l .command) fs (l .value) × AllAnswered profile fs ls
+-- a line's value is that of the last status answer of its zone and row
+abbrev pub IsAnswered : Profile → List BroughtAnswer → Line → Type 0
+IsAnswered profile fs l = Last profile (l .zone) (l .command) fs (l .value)
 
 pub record SignPromise (t : Tracker) (ls : List Line) : Type 0 where
   pub refused : (n i : ℕ) → sheetVerdict (t .profile) ls ≡ verdict.Refused n i → signOff t ls ≡ Refused n i
-  pub yes : sheetVerdict (t .profile) ls ≡ verdict.Accepted → AllHold t ls → signOff t ls ≡ Yes
-  pub no : sheetVerdict (t .profile) ls ≡ verdict.Accepted → (AllHold t ls → ⊥) → signOff t ls ≡ No
-  pub only : signOff t ls ≡ Yes → (sheetVerdict (t .profile) ls ≡ verdict.Accepted) × AllHold t ls
+  pub yes : sheetVerdict (t .profile) ls ≡ verdict.Accepted → Each (IsHeld t) ls → signOff t ls ≡ Yes
+  pub no : sheetVerdict (t .profile) ls ≡ verdict.Accepted → (Each (IsHeld t) ls → ⊥) → signOff t ls ≡ No
+  pub only : signOff t ls ≡ Yes → (sheetVerdict (t .profile) ls ≡ verdict.Accepted) × Each (IsHeld t) ls
 
--- after any answers
+-- after any answers, under the profile that the tracker was made for
 pub record SignHistoryPromise (profile : Profile) (fs : List BroughtAnswer) (ls : List Line) : Type 0 where
-  pub answered : signOff (answersFed (freshTracker profile) fs) ls ≡ Yes → AllAnswered profile fs ls
-  pub signed : sheetVerdict profile ls ≡ verdict.Accepted → AllAnswered profile fs ls → signOff (answersFed (freshTracker profile) fs) ls ≡ Yes
-  pub unsigned : sheetVerdict profile ls ≡ verdict.Accepted → (AllAnswered profile fs ls → ⊥) → signOff (answersFed (freshTracker profile) fs) ls ≡ No
+  pub refused : (n i : ℕ) → sheetVerdict profile ls ≡ verdict.Refused n i → signOff (answersFed (freshTracker profile) fs) ls ≡ Refused n i
+  pub yes : sheetVerdict profile ls ≡ verdict.Accepted → Each (IsAnswered profile fs) ls → signOff (answersFed (freshTracker profile) fs) ls ≡ Yes
+  pub no : sheetVerdict profile ls ≡ verdict.Accepted → (Each (IsAnswered profile fs) ls → ⊥) → signOff (answersFed (freshTracker profile) fs) ls ≡ No
+  pub only : signOff (answersFed (freshTracker profile) fs) ls ≡ Yes → (sheetVerdict profile ls ≡ verdict.Accepted) × Each (IsAnswered profile fs) ls

@@ -15,9 +15,10 @@ use Rattle.sheet.specs.declared.check.Verdict.the-variants as verdict
 use Rattle.tracker.specs.Feed.{answerFed}
 use Rattle.tracker.specs.FeedPromise.{answerRead}
 use Rattle.signing.specs.Sign.{signOff}
-use Rattle.signing.specs.Capture.{captureFed, captureSigned}
-use Rattle.tracker.specs.Numbers.{fedNumber, fedPaper}
-use Rattle.signing.specs.Numbers.{signedNumber, signedPlace, signedYes, captureNumber}
+use Rattle.tracker.specs.Capture.{captureFed}
+use Rattle.tracker.specs.Numbers.{fedNumber, fedPaper, captureNumber}
+use Rattle.signing.specs.Capture.{captureSigned}
+use Rattle.signing.specs.Numbers.{signedNumber, signedPlace, signedYes}
 use Rattle.tracker.specs.declared.tracker.Tracker.{Tracker}
 use Rattle.signing.specs.declared.sign.Signed.the-variants.{Yes, No}
 

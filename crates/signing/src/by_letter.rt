@@ -1,5 +1,3 @@
-use crate::capture::CaptureAnswer;
-use crate::capture::after_capture;
 use crate::capture::capture_signs;
 use crate::sign::Signed;
 use frame::capture::CAPTURE_LIMIT;
@@ -8,6 +6,8 @@ use row::profile::Profile;
 use row::profile::profile_of;
 use sheet::check::Verdict;
 use sheetfile::file::read_file;
+use tracker::capture::CaptureAnswer;
+use tracker::capture::after_capture;
 use tracker::tracker::Kept;
 use tracker::tracker::kept_in;
 use tracker::tracker::new_tracker;

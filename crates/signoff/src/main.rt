@@ -1,6 +1,10 @@
 // Signs a sheet file off by a capture of answers, with a tracker of its own.
 //   signoff PROFILE SHEET CAPTURE
+use characters::decimal::write_integer;
+use characters::hex::hex_digit;
 use frame::direction::Direction;
+use lent::part::bytes_at;
+use lent::written::Written;
 use message::content::Content;
 use message::read::Message;
 use message::read::Reading;
@@ -45,8 +49,8 @@ fn main() {
     }
     sign(
         letter,
-        lent::part::bytes_at(&file, 0, length),
-        lent::part::bytes_at(&capture, 0, count),
+        bytes_at(&file, 0, length),
+        bytes_at(&capture, 0, count),
     );
 }
 
@@ -176,33 +180,18 @@ fn say_content(content: Content, value: u8) {
     }
 }
 
+// A number that may be below zero: five digits at most, and a sign.
 fn say_integer(number: i16) {
-    if number < 0 {
-        io::write_all(OUT, b"-");
-    }
-    io::print_decimal(OUT, size_of(number) as u64);
-}
-
-// A number without its sign; the wider type is for the least number.
-fn size_of(number: i16) -> u16 {
-    if number < 0 {
-        return (0 - number as i32) as u16;
-    }
-    number as u16
+    let mut digits = [0u8; 6];
+    let written = write_integer(&mut digits, 0, number as i32);
+    let Written::Bytes(count) = written else {
+        return;
+    };
+    io::write_all(OUT, bytes_at(&digits, 0, count));
 }
 
 fn say_hex(byte: u8) {
-    io::write_all(OUT, &[digit(byte / 16), digit(byte % 16)]);
-}
-
-fn digit(value: u8) -> u8 {
-    if value < 10 {
-        return b'0' + value;
-    }
-    if value < 16 {
-        return b'A' + (value - 10);
-    }
-    b'?'
+    io::write_all(OUT, &[hex_digit(byte / 16), hex_digit(byte % 16)]);
 }
 
 // The first argument's letter; 0, which names no profile, where it is not one letter.
@@ -225,7 +214,7 @@ fn first(word: &[u8]) -> u8 {
 // is room for; BAD, and says so, where it can't be read.
 fn read_argument(place: usize, word: &mut [u8], file: &mut [u8]) -> usize {
     let count = os::arg(place, word);
-    let path = lent::part::bytes_at(word, 0, count);
+    let path = bytes_at(word, 0, count);
     let fd = os::open_read(path);
     if fd < 0 {
         complain(b"can't open ", path);

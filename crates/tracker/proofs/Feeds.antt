@@ -2,12 +2,14 @@
 use mathlib.Core.Path.{_≡_, refl, ap, sym, _∙_}
 use mathlib.Core.Bool.{Bool, true, false, cond, not, _&&_}
 use mathlib.Core.List.{List, [], _∷_}
+use mathlib.Core.Logic.{_⊎_, inl, inr}
 use Prim.Native.Nat.{ℕ}
 use native.Mathlib.Omega.{arith}
 use borrow.Author.Tests.{eqb-true}
 use lib.Dec.{eqb}
-use lib.ListN.{length, getD}
+use lib.ListN.{length, getD, set}
 use lib.Seq.{getD-set-same, getD-set-other}
+use Rattle.lists.specs.Each.{Each}
 use Rattle.fields.specs.Raw.{tooLong}
 use Rattle.frame.specs.declared.direction.Direction.the-variants.{Answer}
 use Rattle.refusals.proofs.Ruled.{refuses, was-accepted, pass-first}
@@ -16,9 +18,10 @@ use Rattle.row.specs.Table.{table, rowOf}
 use Rattle.row.specs.declared.profile.Profile.{Profile}
 use Rattle.row.specs.declared.table.Row.{Row}
 use Rattle.row.specs.declared.table.Found.{Found}
-use Rattle.row.specs.declared.table.Found.the-variants as found
-use Rattle.row.proofs.Rows.{Each, each-found}
-use Rattle.judging.specs.Judge.{isAnswer, hasLength, hasValue, judgeRules}
+use Rattle.row.proofs.Rows.{each-found}
+use Rattle.judging.specs.Judge.{isAnswer, hasLength, hasValue, rowJudged, judgeRules}
+use Rattle.judging.specs.declared.judge.Judged.{Judged}
+use Rattle.judging.specs.declared.judge.Judged.the-variants as judged
 use Rattle.message.specs.Message.{isDenial, wrongCode, said, denial, messageIn, messageOf, readRules, readOf}
 use Rattle.message.specs.declared.read.Said.{Said}
 use Rattle.message.specs.declared.read.Message.{Message}
@@ -27,14 +30,13 @@ use Rattle.message.specs.declared.read.Reading.{Reading}
 use Rattle.message.specs.declared.read.Reading.the-variants as reading
 use Rattle.judging.proofs.Judges.{Passes, judge-passes, same-row}
 use Rattle.tracker.specs.Cell.{cellOf}
-use Rattle.tracker.specs.Tracker.{knownState, isSpoilt, spoiltAt, spoiltIn, keptAt, keptIn}
-use Rattle.tracker.specs.Feed.{madeKnown, toldBy, afterAnswer}
+use Rattle.tracker.specs.CellPromise.{HasCell}
+use Rattle.tracker.specs.Tracker.{knownState, isSpoilt, keptAt, keptIn}
+use Rattle.tracker.specs.Feed.{madeKnown, told, answerFed}
 use Rattle.tracker.specs.FeedPromise.{Whole, answerRead, FeedPromise}
-use Rattle.tracker.specs.declared.cell.Cell.{Cell}
-use Rattle.tracker.specs.declared.cell.Cell.the-variants as cell
 use Rattle.tracker.specs.declared.tracker.Tracker.{Tracker}
-use Rattle.tracker.specs.declared.tracker.Kept.the-variants.{Value, NoCell}
-use Rattle.tracker.proofs.Cells.{placed, within, same-cell}
+use Rattle.tracker.specs.declared.tracker.Kept.the-variants.{Value}
+use Rattle.tracker.proofs.Cells.{stands, within, same-cell, cell-or-none}
 
 -- a status brings the zone and command that were fed, and none of the rules applies to it
 record Brings (profile : Profile) (zone command : ℕ) (body : List ℕ) (s : Said) : Type 0 where
@@ -87,29 +89,38 @@ unspoilt-rows : Each Unspoilt table
 unfolding table
 unspoilt-rows = (λ b e. refl, (λ b e. refl, (λ b e. refl, (λ b e. refl, (λ b e. ap not e, (λ b e. ap not e, (λ b e. ap not e, (λ b e. refl, (λ b e. ap not e, (λ b e. ap not e, (λ b e. ap not e, (λ b e. ap not e, (λ b e. refl, (λ b e. refl, (λ b e. refl, (λ b e. refl, (λ b e. refl, (λ b e. ap not e, (λ b e. ap not e, tt)))))))))))))))))))
 
-unspoilt : (profile : Profile) (command b : ℕ) (row : Row) → rowOf profile command ≡ found.Row row → isAnswer row b ≡ true → spoiltIn profile command b ≡ false
-unspoilt profile command b row there a =
-    ap (λ (f : Found). spoiltAt f b) there ∙ each-found Unspoilt table (letterOf profile) command row unspoilt-rows there b a
-
 -- a cell that is made known
-module _ (t : Tracker) (zone command i b : ℕ) (e : cellOf (t .profile) zone command ≡ cell.At i) where
-  put-known : Whole t → spoiltIn (t .profile) command b ≡ false → keptIn (madeKnown t (cell.At i) b) zone command ≡ Value b
+module _ (t : Tracker) (zone command b : ℕ) (row : Row) (has : HasCell (t .profile) zone command row) where
+  put-known : Whole t → isSpoilt row b ≡ false → keptIn (madeKnown t zone (judged.Legal row) b) zone command ≡ Value b
   unfolding keptIn
   put-known w s =
-      let h = within (t .profile) zone command i e in
-      let state : getD (madeKnown t (cell.At i) b .states) i 0 ≡ knownState = getD-set-same (t .states) i knownState 0 (omega (arith, h, w .0)) in
-      let value : getD (madeKnown t (cell.At i) b .values) i 0 ≡ b = getD-set-same (t .values) i b 0 (omega (arith, h, w .1)) in
-      rw (e, state, value, s)
+      let h = within (t .profile) zone command row (has .0) in
+      let state = getD-set-same (t .states) (cellOf row zone) knownState 0 (omega (arith, h, w .0)) in
+      let value = getD-set-same (t .values) (cellOf row zone) b 0 (omega (arith, h, w .1)) in
+      rw (has .1, has .0, has .1, state, value, s)
 
-  put-others : (z c : ℕ) → ((z ≡ zone) × (c ≡ command) → ⊥) → keptIn (madeKnown t (cell.At i) b) z c ≡ keptIn t z c
+  put-others : (z c : ℕ) → ((z ≡ zone) × (c ≡ command) → ⊥) → keptIn (madeKnown t zone (judged.Legal row) b) z c ≡ keptIn t z c
   unfolding keptIn
-  put-others z c other = go (cellOf (t .profile) z c) refl
+  put-others z c other = rw (has .1) (go (rowJudged (t .profile) z c) refl)
     where
-      go : (k : Cell) → cellOf (t .profile) z c ≡ k → keptAt (madeKnown t (cell.At i) b) k c ≡ keptAt t k c
-      go cell.NoCell f = refl
-      go (cell.At j) f =
-          let apart : j ≡ i → ⊥ = λ g. other (same-cell (t .profile) zone command z c i e (f ∙ ap cell.At g)) in
-          rw (getD-set-other (t .states) i j knownState 0 apart, getD-set-other (t .values) i j b 0 apart)
+      go : (j : Judged) → rowJudged (t .profile) z c ≡ j
+          → keptAt (record { profile = t .profile; states = set (t .states) (cellOf row zone) knownState; values = set (t .values) (cellOf row zone) b }) z j ≡ keptAt t z j
+      go (judged.Refused n) f = refl
+      go (judged.Legal r) f =
+          let apart : cellOf r z ≡ cellOf row zone → ⊥ = λ g. other (same-cell (t .profile) zone command z c row r (has .0) f g) in
+          rw (getD-set-other (t .states) (cellOf row zone) (cellOf r z) knownState 0 apart, getD-set-other (t .values) (cellOf row zone) (cellOf r z) b 0 apart)
+
+-- where there is no cell nothing is made known
+none-known : (t : Tracker) (zone command b : ℕ) → ((row : Row) → HasCell (t .profile) zone command row → ⊥) → madeKnown t zone (rowJudged (t .profile) zone command) b ≡ t
+none-known t zone command b none = go (rowJudged (t .profile) zone command) refl
+  where
+    half : (row : Row) (p : Bool) → row .pair ≡ p → rowJudged (t .profile) zone command ≡ judged.Legal row → madeKnown t zone (judged.Legal row) b ≡ t
+    half row true p e = rw p
+    half row false p e = absurd (none row (e, p))
+
+    go : (j : Judged) → rowJudged (t .profile) zone command ≡ j → madeKnown t zone j b ≡ t
+    go (judged.Legal row) e = half row (row .pair) refl e
+    go (judged.Refused n) e = refl
 
 module _ (t : Tracker) (zone command ac : ℕ) (body : List ℕ) where
   abbrev first : ℕ
@@ -117,41 +128,55 @@ module _ (t : Tracker) (zone command ac : ℕ) (body : List ℕ) where
 
   -- after a status the tracker has its cell put
   pub after-status : (s : Said) → answerRead t zone command ac body ≡ reading.Message (message.Status s)
-      → afterAnswer t zone command ac body ≡ madeKnown t (cellOf (t .profile) zone command) first
+      → answerFed t zone command ac body .tracker ≡ madeKnown t zone (rowJudged (t .profile) zone command) first
   after-status s e =
       let br = brings (t .profile) zone command ac body s e in
-      ap (λ (r : Reading). toldBy t r first) e ∙ rw (br .its-zone, br .its-command)
+      ap (λ (r : Reading). told t r first) e ∙ rw (br .its-zone, br .its-command)
 
-  pub settle : (P : Tracker → Type 0) → P t → ((s : Said) → answerRead t zone command ac body ≡ reading.Message (message.Status s) → P (afterAnswer t zone command ac body)) → P (afterAnswer t zone command ac body)
+  pub settle : (P : Tracker → Type 0) → P t → ((s : Said) → answerRead t zone command ac body ≡ reading.Message (message.Status s) → P (answerFed t zone command ac body .tracker)) → P (answerFed t zone command ac body .tracker)
   settle P same status = go (answerRead t zone command ac body) refl status
     where
       go : (r : Reading) → answerRead t zone command ac body ≡ r
-          → ((s : Said) → r ≡ reading.Message (message.Status s) → P (toldBy t r first)) → P (toldBy t r first)
+          → ((s : Said) → r ≡ reading.Message (message.Status s) → P (told t r first)) → P (told t r first)
       go (reading.Message (message.Command s)) e f = same
       go (reading.Message (message.Status s)) e f = f s refl
       go (reading.Message (message.Denied d)) e f = same
       go (reading.Refused n) e f = same
 
   -- wherever the cell is, or is not, the others stay
-  put-cell : (k : Cell) → cellOf (t .profile) zone command ≡ k → (z c : ℕ) → ((z ≡ zone) × (c ≡ command) → ⊥) → keptIn (madeKnown t k first) z c ≡ keptIn t z c
-  put-cell cell.NoCell e z c other = refl
-  put-cell (cell.At i) e z c other = put-others t zone command i first e z c other
+  put-cell : (z c : ℕ) → ((z ≡ zone) × (c ≡ command) → ⊥) → keptIn (madeKnown t zone (rowJudged (t .profile) zone command) first) z c ≡ keptIn t z c
+  put-cell z c other = go (cell-or-none (t .profile) zone command)
+    where
+      go : ((row : Row) × HasCell (t .profile) zone command row) ⊎ ((row : Row) → HasCell (t .profile) zone command row → ⊥)
+          → keptIn (madeKnown t zone (rowJudged (t .profile) zone command) first) z c ≡ keptIn t z c
+      go (inl h) = ap (λ (j : Judged). keptIn (madeKnown t zone j first) z c) (h .1 .0) ∙ put-others t zone command first (h .0) (h .1) z c other
+      go (inr none) = ap (λ (x : Tracker). keptIn x z c) (none-known t zone command first none)
+
+  put-profile : (j : Judged) → madeKnown t zone j first .profile ≡ t .profile
+  put-profile (judged.Legal row) = elim (row .pair) as (λ p. cond p t (record { profile = t .profile; states = set (t .states) (cellOf row zone) knownState; values = set (t .values) (cellOf row zone) first }) .profile ≡ t .profile) [ true ↦ refl | false ↦ refl ]
+  put-profile (judged.Refused n) = refl
+
+  -- the one byte of a status
+  status-byte : (s : Said) → answerRead t zone command ac body ≡ reading.Message (message.Status s) → (row : Row) → HasCell (t .profile) zone command row
+      → (b : ℕ) × (body ≡ b ∷ []) × (isSpoilt row b ≡ false)
+  status-byte s f row has =
+      let passes = brings (t .profile) zone command ac body s f .passes in
+      let same = same-row (rowOf (t .profile) command) (passes .row) row (passes .lies .there) (stands (t .profile) zone command row (has .0) .there) in
+      let long = rw same at (passes .long) in
+      let value = rw same at (passes .value) in
+      let one = one-byte row body (one-long row (length body) (has .1) long) value in
+      (one .0, one .1, each-found Unspoilt table (letterOf (t .profile)) command row unspoilt-rows (stands (t .profile) zone command row (has .0) .there) (one .0) (one .2))
 
 pub feed-promise : (t : Tracker) (zone command ac : ℕ) (body : List ℕ) → FeedPromise t zone command ac body
 feed-promise t zone command ac body = record {
-  refused = λ n e. ap (λ (r : Reading). toldBy t r (getD body 0 0)) e;
-  denied = λ d e. ap (λ (r : Reading). toldBy t r (getD body 0 0)) e;
-  left-out = λ e. settle t zone command ac body (λ x. x ≡ t) refl (λ s f. after-status t zone command ac body s f ∙ ap (λ (k : Cell). madeKnown t k (getD body 0 0)) e);
-  known = λ w s f i e.
-      let br = brings (t .profile) zone command ac body s f in
-      let p = placed (t .profile) zone command i e in
-      let passes = br .passes in
-      let row = passes .row in
-      let there = passes .lies .there in
-      let single : row .pair ≡ false = ap (λ (r : Row). r .pair) (same-row (rowOf (t .profile) command) row (p .row) there (p .legal .there)) ∙ p .single in
-      let one = one-byte row body (one-long row (length body) single (passes .long)) (passes .value) in
-      let at : afterAnswer t zone command ac body ≡ madeKnown t (cell.At i) (one .0) =
-      after-status t zone command ac body s f ∙ ap (λ (k : Cell). madeKnown t k (getD body 0 0)) e ∙ ap (λ (xs : List ℕ). madeKnown t (cell.At i) (getD xs 0 0)) (one .1) in
-      (one .0, one .1, ap (λ (x : Tracker). keptIn x zone command) at ∙ put-known t zone command i (one .0) e w (unspoilt (t .profile) command (one .0) row there (one .2)));
-  others = λ z c other. settle t zone command ac body (λ x. keptIn x z c ≡ keptIn t z c) refl (λ s f. ap (λ (x : Tracker). keptIn x z c) (after-status t zone command ac body s f) ∙ put-cell t zone command ac body (cellOf (t .profile) zone command) refl z c other);
+  refused = λ n e. ap (λ (r : Reading). told t r (getD body 0 0)) e;
+  denied = λ d e. ap (λ (r : Reading). told t r (getD body 0 0)) e;
+  left-out = λ none. settle t zone command ac body (λ x. x ≡ t) refl (λ s f. after-status t zone command ac body s f ∙ none-known t zone command (getD body 0 0) none);
+  known = λ w s f row has.
+      let one = status-byte t zone command ac body s f row has in
+      let at : answerFed t zone command ac body .tracker ≡ madeKnown t zone (judged.Legal row) (one .0) =
+      after-status t zone command ac body s f ∙ ap (λ (j : Judged). madeKnown t zone j (getD body 0 0)) (has .0) ∙ ap (λ (xs : List ℕ). madeKnown t zone (judged.Legal row) (getD xs 0 0)) (one .1) in
+      (one .0, one .1, ap (λ (x : Tracker). keptIn x zone command) at ∙ put-known t zone command (one .0) row has w (one .2));
+  others = λ z c other. settle t zone command ac body (λ x. keptIn x z c ≡ keptIn t z c) refl (λ s f. ap (λ (x : Tracker). keptIn x z c) (after-status t zone command ac body s f) ∙ put-cell t zone command ac body z c other);
+  profile = settle t zone command ac body (λ x. x .profile ≡ t .profile) refl (λ s f. ap (λ (x : Tracker). x .profile) (after-status t zone command ac body s f) ∙ put-profile t zone command ac body (rowJudged (t .profile) zone command));
 }

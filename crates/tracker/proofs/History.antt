@@ -1,15 +1,20 @@
 -- What a tracker knows after any answers.
 use mathlib.Core.Path.{_≡_, refl, ap, sym, _∙_, subst}
-use mathlib.Core.Bool.{Bool, true, false}
+use mathlib.Core.Bool.{Bool, true, false, cond}
 use mathlib.Core.List.{List, [], _∷_, _++_}
 use mathlib.Core.Logic.{_⊎_, inl, inr}
 use Prim.Native.Nat.{ℕ, zero, suc}
 use native.Mathlib.Omega.{arith}
 use borrow.Author.Tests.{eqb-true, eqb-false}
 use lib.Dec.{eqb}
-use lib.ListN.{length-set, getD, replicate}
+use lib.ListN.{length-set, getD, set, replicate}
+use Rattle.lists.specs.Each.{Each}
 use Rattle.frame.specs.declared.direction.Direction.the-variants.{Answer}
 use Rattle.row.specs.declared.profile.Profile.{Profile}
+use Rattle.row.specs.declared.table.Row.{Row}
+use Rattle.judging.specs.Judge.{rowJudged}
+use Rattle.judging.specs.declared.judge.Judged.{Judged}
+use Rattle.judging.specs.declared.judge.Judged.the-variants as judged
 use Rattle.message.specs.Message.{readOf}
 use Rattle.message.specs.declared.read.Said.{Said}
 use Rattle.message.specs.declared.read.Denial.{Denial}
@@ -17,12 +22,11 @@ use Rattle.message.specs.declared.read.Message.the-variants as message
 use Rattle.message.specs.declared.read.Reading.{Reading}
 use Rattle.message.specs.declared.read.Reading.the-variants as reading
 use Rattle.tracker.specs.Cell.{cellCount, cellOf}
+use Rattle.tracker.specs.CellPromise.{HasCell}
 use Rattle.tracker.specs.Tracker.{knownState, freshTracker, keptIn}
-use Rattle.tracker.specs.Feed.{madeKnown, afterAnswer, BroughtAnswer, answersFed}
-use Rattle.tracker.specs.FeedPromise.{Whole}
-use Rattle.tracker.specs.HistoryPromise.{IsStatus, NoneOf, Last, HistoryPromise}
-use Rattle.tracker.specs.declared.cell.Cell.{Cell}
-use Rattle.tracker.specs.declared.cell.Cell.the-variants as cell
+use Rattle.tracker.specs.Feed.{madeKnown, answerFed, BroughtAnswer, answersFed}
+use Rattle.tracker.specs.FeedPromise.{Whole, FeedsPromise}
+use Rattle.tracker.specs.HistoryPromise.{IsStatus, Last, HistoryPromise}
 use Rattle.tracker.specs.declared.tracker.Tracker.{Tracker}
 use Rattle.tracker.specs.declared.tracker.Kept.the-variants.{Value, Unknown}
 use Rattle.tracker.proofs.Feeds.{settle, after-status, feed-promise}
@@ -31,22 +35,33 @@ use Rattle.tracker.proofs.Feeds.{settle, after-status, feed-promise}
 abbrev pub Fit : Profile → Tracker → Type 0
 Fit profile t = (t .profile ≡ profile) × Whole t
 
-fit-put : (profile : Profile) (t : Tracker) (k : Cell) (b : ℕ) → Fit profile t → Fit profile (madeKnown t k b)
-fit-put profile t cell.NoCell b f = f
-fit-put profile t (cell.At i) b f = (f .0, (length-set (t .states) i knownState ∙ f .1 .0, length-set (t .values) i b ∙ f .1 .1))
+fit-put : (profile : Profile) (t : Tracker) (zone : ℕ) (j : Judged) (b : ℕ) → Fit profile t → Fit profile (madeKnown t zone j b)
+fit-put profile t zone (judged.Legal row) b f =
+    elim (row .pair) as (λ p. Fit profile (cond p t (record { profile = t .profile; states = set (t .states) (cellOf row zone) knownState; values = set (t .values) (cellOf row zone) b })))
+    [ true ↦ f | false ↦ (f .0, (length-set (t .states) (cellOf row zone) knownState ∙ f .1 .0, length-set (t .values) (cellOf row zone) b ∙ f .1 .1)) ]
+fit-put profile t zone (judged.Refused n) b f = f
 
 abbrev next : Tracker → BroughtAnswer → Tracker
-next t a = afterAnswer t (a .zone) (a .command) (a .answer) (a .body)
+next t a = answerFed t (a .zone) (a .command) (a .answer) (a .body) .tracker
 
 pub fit-next : (profile : Profile) (t : Tracker) (a : BroughtAnswer) → Fit profile t → Fit profile (next t a)
 fit-next profile t a f =
     settle t (a .zone) (a .command) (a .answer) (a .body) (Fit profile) f
-    (λ s e. subst (Fit profile) (sym (after-status t (a .zone) (a .command) (a .answer) (a .body) s e)) (fit-put profile t (cellOf (t .profile) (a .zone) (a .command)) (getD (a .body) 0 0) f))
+    (λ s e. subst (Fit profile) (sym (after-status t (a .zone) (a .command) (a .answer) (a .body) s e)) (fit-put profile t (a .zone) (rowJudged (t .profile) (a .zone) (a .command)) (getD (a .body) 0 0) f))
 
 pub fit-all : (profile : Profile) (t : Tracker) (fs : List BroughtAnswer) → Fit profile t → Fit profile (answersFed t fs)
 unfolding answersFed
 fit-all profile t [] f = f
 fit-all profile t (a ∷ fs) f = fit-all profile (next t a) fs (fit-next profile t a f)
+
+-- feeding keeps the profile
+keeps : (t : Tracker) (fs : List BroughtAnswer) → answersFed t fs .profile ≡ t .profile
+unfolding answersFed
+keeps t [] = refl
+keeps t (a ∷ fs) = keeps (next t a) fs ∙ feed-promise t (a .zone) (a .command) (a .answer) (a .body) .profile
+
+pub feeds-promise : (t : Tracker) (fs : List BroughtAnswer) → FeedsPromise t fs
+feeds-promise t fs = record { profile = keeps t fs }
 
 pub all-profile : (profile : Profile) (fs : List BroughtAnswer) → answersFed (freshTracker profile) fs .profile ≡ profile
 all-profile profile fs = fit-all profile (freshTracker profile) fs (refl, (refl, refl)) .0
@@ -74,6 +89,10 @@ refusal-differs : (n : ℕ) (s : Said) → reading.Refused n ≡ reading.Message
 refusal-differs n s e = let z : _≡_ {A = ℕ} 0 1 = cc in omega arith
 
 module _ (profile : Profile) (zone command : ℕ) where
+  -- none of some answers is a status of the zone and command
+  abbrev NoneIs : List BroughtAnswer → Type 0
+  NoneIs fs = Each (λ (a : BroughtAnswer). IsStatus profile zone command a → ⊥) fs
+
   abbrev reads : Profile → BroughtAnswer → Reading
   reads p a = readOf p Answer (a .zone) (a .command) (a .answer) (a .body)
 
@@ -83,22 +102,22 @@ module _ (profile : Profile) (zone command : ℕ) where
       settle t (a .zone) (a .command) (a .answer) (a .body) (λ x. keptIn x zone command ≡ keptIn t zone command) refl
       (λ s e. feed-promise t (a .zone) (a .command) (a .answer) (a .body) .others zone command (λ w. none (sym (w .0), sym (w .1), (s, ap (λ (q : Profile). reads q a) (sym p) ∙ e))))
 
-  stays : (t : Tracker) (fs : List BroughtAnswer) → Fit profile t → NoneOf profile zone command fs → keptIn (answersFed t fs) zone command ≡ keptIn t zone command
+  stays : (t : Tracker) (fs : List BroughtAnswer) → Fit profile t → NoneIs fs → keptIn (answersFed t fs) zone command ≡ keptIn t zone command
   unfolding answersFed
   stays t [] f none = refl
   stays t (a ∷ fs) f none = stays (next t a) fs (fit-next profile t a f) (none .1) ∙ step-stays t a (f .0) (none .0)
 
   -- in a row and zone that have a cell
-  module _ (i : ℕ) (kept : cellOf profile zone command ≡ cell.At i) where
+  module _ (row : Row) (has : HasCell profile zone command row) where
     abbrev Knows : Tracker → BroughtAnswer → Type 0
     Knows t a = (b : ℕ) × (a .body ≡ b ∷ []) × (keptIn (next t a) zone command ≡ Value b)
 
     -- a status makes its byte known
     step-known : (t : Tracker) (a : BroughtAnswer) → Fit profile t → IsStatus profile zone command a → Knows t a
     step-known t a f w =
-        let here : cellOf (t .profile) (a .zone) (a .command) ≡ cell.At i = rw (f .0, w .0, w .1) kept in
+        let here : HasCell (t .profile) (a .zone) (a .command) row = rw (f .0, w .0, w .1) has in
         let read : reads (t .profile) a ≡ reading.Message (message.Status (w .2 .0)) = ap (λ (q : Profile). reads q a) (f .0) ∙ w .2 .1 in
-        let k = feed-promise t (a .zone) (a .command) (a .answer) (a .body) .known (f .1) (w .2 .0) read i here in
+        let k = feed-promise t (a .zone) (a .command) (a .answer) (a .body) .known (f .1) (w .2 .0) read row here in
         (k .0, k .1, ap (λ (z : ℕ). keptIn (next t a) z command) (sym (w .0)) ∙ ap (λ (c : ℕ). keptIn (next t a) (a .zone) c) (sym (w .1)) ∙ k .2)
 
     fit-fresh : Fit profile (freshTracker profile)
@@ -106,7 +125,7 @@ module _ (profile : Profile) (zone command : ℕ) where
 
     fresh-unknown : keptIn (freshTracker profile) zone command ≡ Unknown
     unfolding keptIn
-    fresh-unknown = rw (kept, getD-replicate cellCount i)
+    fresh-unknown = rw (has .0, has .1, getD-replicate cellCount (cellOf row zone))
 
     last-known : (fs : List BroughtAnswer) (b : ℕ) → Last profile zone command fs b → keptIn (answersFed (freshTracker profile) fs) zone command ≡ Value b
     unfolding answersFed
@@ -133,12 +152,12 @@ module _ (profile : Profile) (zone command : ℕ) where
         go true true (reading.Message (message.Denied d)) e f g = inr (λ w. denial-differs d (w .2 .0) (sym g ∙ w .2 .1))
         go true true (reading.Refused n) e f g = inr (λ w. refusal-differs n (w .2 .0) (sym g ∙ w .2 .1))
 
-    either : (fs : List BroughtAnswer) → NoneOf profile zone command fs ⊎ ((b : ℕ) × Last profile zone command fs b)
+    either : (fs : List BroughtAnswer) → NoneIs fs ⊎ ((b : ℕ) × Last profile zone command fs b)
     either [] = inl tt
     either (a ∷ fs) = go (either fs) (decided a)
       where
-        go : NoneOf profile zone command fs ⊎ ((b : ℕ) × Last profile zone command fs b) → IsStatus profile zone command a ⊎ (IsStatus profile zone command a → ⊥)
-            → NoneOf profile zone command (a ∷ fs) ⊎ ((b : ℕ) × Last profile zone command (a ∷ fs) b)
+        go : NoneIs fs ⊎ ((b : ℕ) × Last profile zone command fs b) → IsStatus profile zone command a ⊎ (IsStatus profile zone command a → ⊥)
+            → NoneIs (a ∷ fs) ⊎ ((b : ℕ) × Last profile zone command (a ∷ fs) b)
         go (inr l) d =
             inr (
               l .0,
@@ -157,10 +176,10 @@ module _ (profile : Profile) (zone command : ℕ) where
             inr (k .0, record { before = []; answer = a; later = fs; whole = refl; status = w; none = none; byte = k .1 })
         go (inl none) (inr not) = inl (not, none)
 
-pub history-promise : (profile : Profile) (zone command i : ℕ) (kept : cellOf profile zone command ≡ cell.At i) (fs : List BroughtAnswer)
-    → HistoryPromise profile zone command i kept fs
-history-promise profile zone command i kept fs = record {
-  unknown = λ none. stays profile zone command (freshTracker profile) fs (fit-fresh profile zone command i kept) none ∙ fresh-unknown profile zone command i kept;
-  last = last-known profile zone command i kept fs;
-  either = either profile zone command i kept fs;
+pub history-promise : (profile : Profile) (zone command : ℕ) (row : Row) (has : HasCell profile zone command row) (fs : List BroughtAnswer)
+    → HistoryPromise profile zone command row has fs
+history-promise profile zone command row has fs = record {
+  unknown = λ none. stays profile zone command (freshTracker profile) fs (fit-fresh profile zone command row has) none ∙ fresh-unknown profile zone command row has;
+  last = last-known profile zone command row has fs;
+  either = either profile zone command row has fs;
 }

@@ -1,5 +1,7 @@
--- Proofs about trackers: their cells, what they keep, feeding and history.
+-- Proofs about trackers: their cells, what they keep, feeding, history and captures.
 pub mod Cells
 pub mod Keeps
 pub mod Feeds
 pub mod History
+pub mod Captures
+pub mod Frames

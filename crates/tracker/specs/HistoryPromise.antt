@@ -4,16 +4,17 @@ use mathlib.Core.Path.{_≡_}
 use mathlib.Core.List.{List, [], _∷_, _++_}
 use mathlib.Core.Logic.{_⊎_}
 use Prim.Native.Nat.{ℕ}
+use Rattle.lists.specs.Each.{Each}
 use Rattle.frame.specs.declared.direction.Direction.the-variants as direction
 use Rattle.row.specs.declared.profile.Profile.{Profile}
+use Rattle.row.specs.declared.table.Row.{Row}
 use Rattle.message.specs.Message.{readOf}
 use Rattle.message.specs.declared.read.Said.{Said}
 use Rattle.message.specs.declared.read.Message.the-variants as message
 use Rattle.message.specs.declared.read.Reading.the-variants as reading
-use Rattle.tracker.specs.Cell.{cellOf}
+use Rattle.tracker.specs.CellPromise.{HasCell}
 use Rattle.tracker.specs.Tracker.{freshTracker, keptIn}
 use Rattle.tracker.specs.Feed.{BroughtAnswer, answersFed}
-use Rattle.tracker.specs.declared.cell.Cell.the-variants as cell
 use Rattle.tracker.specs.declared.tracker.Kept.the-variants.{Value, Unknown}
 
 -- an answer that is a status of this zone and command
@@ -22,11 +23,6 @@ IsStatus profile zone command a =
     (a .zone ≡ zone) × (a .command ≡ command)
     × ((s : Said) × (readOf profile direction.Answer (a .zone) (a .command) (a .answer) (a .body) ≡ reading.Message (message.Status s)))
 
--- none of some answers is
-abbrev pub NoneOf : Profile → ℕ → ℕ → List BroughtAnswer → Type 0
-NoneOf profile zone command [] = Unit {0}
-NoneOf profile zone command (a ∷ fs) = (IsStatus profile zone command a → ⊥) × NoneOf profile zone command fs
-
 -- the last of some answers that is, with its one byte
 pub record Last (profile : Profile) (zone command : ℕ) (fs : List BroughtAnswer) (b : ℕ) : Type 0 where
   pub before : List BroughtAnswer
@@ -34,11 +30,11 @@ pub record Last (profile : Profile) (zone command : ℕ) (fs : List BroughtAnswe
   pub later : List BroughtAnswer
   pub whole : fs ≡ before ++ answer ∷ later
   pub status : IsStatus profile zone command answer
-  pub none : NoneOf profile zone command later
+  pub none : Each (λ (a : BroughtAnswer). IsStatus profile zone command a → ⊥) later
   pub byte : answer .body ≡ b ∷ []
 
 -- of a zone and command that have a cell
-pub record HistoryPromise (profile : Profile) (zone command i : ℕ) (kept : cellOf profile zone command ≡ cell.At i) (fs : List BroughtAnswer) : Type 0 where
-  pub unknown : NoneOf profile zone command fs → keptIn (answersFed (freshTracker profile) fs) zone command ≡ Unknown
+pub record HistoryPromise (profile : Profile) (zone command : ℕ) (row : Row) (has : HasCell profile zone command row) (fs : List BroughtAnswer) : Type 0 where
+  pub unknown : Each (λ (a : BroughtAnswer). IsStatus profile zone command a → ⊥) fs → keptIn (answersFed (freshTracker profile) fs) zone command ≡ Unknown
   pub last : (b : ℕ) → Last profile zone command fs b → keptIn (answersFed (freshTracker profile) fs) zone command ≡ Value b
-  pub either : NoneOf profile zone command fs ⊎ ((b : ℕ) × Last profile zone command fs b)
+  pub either : Each (λ (a : BroughtAnswer). IsStatus profile zone command a → ⊥) fs ⊎ ((b : ℕ) × Last profile zone command fs b)

@@ -7,6 +7,8 @@ use Rattle.message.specs.Numbers.{readingNumber, Paper, readingPaper}
 use Rattle.tracker.specs.declared.tracker.Kept.{Kept}
 use Rattle.tracker.specs.declared.tracker.Kept.the-variants as kept
 use Rattle.tracker.specs.declared.feed.Fed.{Fed}
+use Rattle.tracker.specs.declared.capture.CaptureAnswer.{CaptureAnswer}
+use Rattle.tracker.specs.declared.capture.CaptureAnswer.the-variants as answer
 
 -- what is kept: no refusal; 1 stands for a byte, 0 for unknown and 2 for no cell, for which the paper has no numbers; its byte
 abbrev pub keptState : Kept → ℕ
@@ -25,3 +27,8 @@ fedNumber f = readingNumber (f .reading)
 
 abbrev pub fedPaper : Fed → List ℕ → Paper
 fedPaper f body = readingPaper (f .tracker .profile) (f .reading) body
+
+-- a capture that was fed: its number; it has no place
+abbrev pub captureNumber : CaptureAnswer → ℕ
+captureNumber answer.Fed = 0
+captureNumber (answer.Refused n) = n

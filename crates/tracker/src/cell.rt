@@ -1,31 +1,17 @@
-use judging::judge::Judged;
-use judging::judge::judge_row;
-use row::profile::Profile;
-use row::table::row_place;
+use row::table::ROW_COUNT;
+use row::table::Row;
 ghost use mathlib.Core.Path.{_≡_};
+ghost use Prim.Native.Nat.{_≤_, _<_};
+ghost use Rattle.row.specs.Table.{rowCount};
 ghost use Rattle.tracker.specs.Cell.{cellOf};
 
-// As many cells as a tracker has: three to each of the table's nineteen rows.
-pub const CELLS: usize = 57;
+// As many cells as a tracker has: three to each row.
+pub const CELLS: usize = ROW_COUNT * 3;
 
-// Where a tracker keeps the byte of a row and zone.
-pub enum Cell {
-    At(usize),
-    NoCell,
-}
-
-// The cell of a zone and row: three to a row, in the table's order. A zone or row that the profile lacks has
-// none, and a row of pairs has none.
-pub(crate) fn cell_of(profile: Profile, zone: u8, command: u8) -> Cell
-    ensures { λ r. ⌜ r ≡ cellOf profile zone command ⌝ }
+// The cell of a row and zone, in the table's order.
+pub(crate) fn cell_of(row: Row, zone: u8) -> usize
+    requires { ⌜ (row .place < rowCount) × (1 ≤ zone) × (zone ≤ 3) ⌝ }
+    ensures { λ r. ⌜ r ≡ cellOf row zone ⌝ }
 {
-    let judged = judge_row(profile, zone, command);
-    let Judged::Legal(row) = judged else {
-        return Cell::NoCell;
-    };
-    if row.pair {
-        return Cell::NoCell;
-    }
-    let place = row_place(profile, command);
-    Cell::At(place * 3 + zone as usize - 1)
+    row.place * 3 + zone as usize - 1
 }

@@ -1,14 +1,16 @@
-use crate::cell::Cell;
 use crate::cell::cell_of;
 use crate::tracker::KNOWN;
 use crate::tracker::Tracker;
 use frame::direction::Direction;
+use judging::judge::Judged;
+use judging::judge::judge_row;
 use message::read::Message;
 use message::read::Reading;
 use message::read::read_message;
 ghost use mathlib.Core.Path.{_≡_};
 ghost use lib.ListN.{getD};
-ghost use Rattle.tracker.specs.Cell.{cellOf};
+ghost use Rattle.judging.specs.Judge.{rowJudged};
+ghost use Rattle.message.specs.declared.read.Reading.the-variants as reading;
 ghost use Rattle.tracker.specs.Feed.{madeKnown, told, answerFed};
 
 // A tracker once it was fed, and what was fed: the message, or the number of the refusal.
@@ -39,7 +41,7 @@ pub fn after_answer(tracker: Tracker, zone: u8, command: u8, answer: u8, body: &
 
 // A status makes its one cell known; a denied message changes nothing.
 fn with_message(tracker: Tracker, message: Message, byte: u8) -> Tracker
-    ensures { λ r. ⌜ r ≡ told tracker message byte ⌝ }
+    ensures { λ r. ⌜ r ≡ told tracker (reading.Message message) byte ⌝ }
 {
     match message {
         Message::Command(_) => tracker,
@@ -48,14 +50,19 @@ fn with_message(tracker: Tracker, message: Message, byte: u8) -> Tracker
     }
 }
 
+// The cell of a zone and row holds a byte; a row of pairs has none.
 fn with_status(tracker: Tracker, zone: u8, command: u8, byte: u8) -> Tracker
-    ensures { λ r. ⌜ r ≡ madeKnown tracker (cellOf (tracker .profile) zone command) byte ⌝ }
+    ensures { λ r. ⌜ r ≡ madeKnown tracker zone (rowJudged (tracker .profile) zone command) byte ⌝ }
 {
     let profile = tracker.profile;
-    let cell = cell_of(profile, zone, command);
-    let Cell::At(at) = cell else {
+    let judged = judge_row(profile, zone, command);
+    let Judged::Legal(row) = judged else {
         return tracker;
     };
+    if row.pair {
+        return tracker;
+    }
+    let at = cell_of(row, zone);
     let mut next = tracker;
     next.states[at] = KNOWN;
     next.values[at] = byte;

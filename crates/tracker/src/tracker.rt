@@ -1,13 +1,12 @@
 use crate::cell::CELLS;
-use crate::cell::Cell;
 use crate::cell::cell_of;
+use judging::judge::Judged;
+use judging::judge::judge_row;
 use row::profile::Profile;
-use row::table::Found;
 use row::table::Row;
-use row::table::find_row;
 use sheet::line::is_sheet_value;
 ghost use mathlib.Core.Path.{_≡_};
-ghost use Rattle.tracker.specs.Tracker.{freshTracker, keptIn, isSpoilt, spoiltIn};
+ghost use Rattle.tracker.specs.Tracker.{freshTracker, isSpoilt, keptIn};
 
 // The state of a cell that is known; any other is unknown.
 pub const KNOWN: u8 = 1;
@@ -43,33 +42,28 @@ pub fn kept_in(tracker: Tracker, zone: u8, command: u8) -> Kept
     ensures { λ r. ⌜ r ≡ keptIn tracker zone command ⌝ }
 {
     let profile = tracker.profile;
-    let cell = cell_of(profile, zone, command);
-    let Cell::At(at) = cell else {
+    let judged = judge_row(profile, zone, command);
+    let Judged::Legal(row) = judged else {
         return Kept::NoCell;
     };
+    if row.pair {
+        return Kept::NoCell;
+    }
+    let at = cell_of(row, zone);
     let states = tracker.states;
     if states[at] != KNOWN {
         return Kept::Unknown;
     }
     let values = tracker.values;
     let value = values[at];
-    if is_spoilt(profile, command, value) {
+    if is_spoilt(row, value) {
         return Kept::Unknown;
     }
     Kept::Value(value)
 }
 
 // Whether a kept byte is no legal value of its sheet row: then it was spoilt.
-fn is_spoilt(profile: Profile, command: u8, value: u8) -> bool
-    ensures { λ r. ⌜ r ≡ spoiltIn profile command value ⌝ }
-{
-    match find_row(profile, command) {
-        Found::Row(row) => is_spoilt_in(row, value),
-        Found::NoRow => false,
-    }
-}
-
-fn is_spoilt_in(row: Row, value: u8) -> bool
+fn is_spoilt(row: Row, value: u8) -> bool
     ensures { λ r. ⌜ r ≡ isSpoilt row value ⌝ }
 {
     if !row.sheet {

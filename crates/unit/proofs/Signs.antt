@@ -10,6 +10,7 @@ use Rattle.frame.specs.Frame.{opens, ends, frameOf}
 use Rattle.frame.specs.Reader.{answerTo, takenAfter}
 use Rattle.frame.specs.declared.direction.Direction.the-variants.{Command, Answer}
 use Rattle.row.specs.declared.profile.Profile.{Profile}
+use Rattle.row.specs.declared.table.Row.{Row}
 use Rattle.sheet.specs.Line.{isLegal}
 use Rattle.lists.specs.InOrder.{inOrder}
 use Rattle.sheetfile.specs.Run.{flush, lineFrame, framesOf, runOf}
@@ -19,17 +20,16 @@ use Rattle.message.specs.declared.read.Message.{Message}
 use Rattle.message.specs.declared.read.Reading.{Reading}
 use Rattle.message.specs.declared.read.Reading.the-variants as reading
 use Rattle.message.specs.declared.read.FrameReading.the-variants as frame
-use Rattle.tracker.specs.Cell.{cellOf as trackerCell}
+use Rattle.tracker.specs.CellPromise.{HasCell}
 use Rattle.tracker.specs.Tracker.{freshTracker, keptIn}
 use Rattle.tracker.specs.Feed.{BroughtAnswer, answersFed}
-use Rattle.tracker.specs.HistoryPromise.{IsStatus, NoneOf, Last, HistoryPromise}
-use Rattle.signing.specs.SignPromise.{AllHold}
-use Rattle.signing.specs.Capture.{broughtBy}
+use Rattle.tracker.specs.HistoryPromise.{IsStatus, Last, HistoryPromise}
+use Rattle.tracker.specs.Capture.{broughtBy}
+use Rattle.signing.specs.SignPromise.{IsHeld}
 use Rattle.tracker.specs.declared.tracker.Tracker.{Tracker}
-use Rattle.tracker.specs.declared.cell.Cell.the-variants as cell
 use Rattle.tracker.specs.declared.tracker.Kept.the-variants.{Value}
 use Rattle.tracker.proofs.Cells.{legal-cell}
-use Rattle.signing.proofs.Frames.{brought-none, brought-one}
+use Rattle.tracker.proofs.Frames.{brought-none, brought-one}
 use Rattle.tracker.proofs.History.{history-promise}
 use Rattle.signing.proofs.Signs.{its-verdict, sign-promise}
 use Rattle.signing.proofs.CaptureSigns.{short}
@@ -142,8 +142,11 @@ module _ (profile : Profile) (start want : Settings) (zeros : ℕ) (enough : 255
             ∙ sym (append-assoc (broughtBy (replies u part)) (more .0) (answersOf ls)),
       )
 
--- a status among the answers
-none-behind : (profile : Profile) (zone command : ℕ) (xs ys : List BroughtAnswer) → NoneOf profile zone command (xs ++ ys) → NoneOf profile zone command ys
+-- none of some answers is a status of a zone and command
+abbrev NoneIs : Profile → ℕ → ℕ → List BroughtAnswer → Type 0
+NoneIs profile zone command fs = Each (λ (a : BroughtAnswer). IsStatus profile zone command a → ⊥) fs
+
+none-behind : (profile : Profile) (zone command : ℕ) (xs ys : List BroughtAnswer) → NoneIs profile zone command (xs ++ ys) → NoneIs profile zone command ys
 none-behind profile zone command [] ys n = n
 none-behind profile zone command (x ∷ xs) ys n = none-behind profile zone command xs ys (n .1)
 
@@ -167,21 +170,21 @@ module _ (profile : Profile) (s : Settings) (legal : Legal profile s) where
   abbrev Known : List BroughtAnswer → Line → Type 0
   Known fs l = (b : ℕ) × (keptIn (answersFed (freshTracker profile) fs) (l .zone) (l .command) ≡ Value b)
 
-  known-by : (fs : List BroughtAnswer) (l : Line) → isLegal profile l ≡ true → (NoneOf profile (l .zone) (l .command) fs → ⊥) → Known fs l
+  known-by : (fs : List BroughtAnswer) (l : Line) → isLegal profile l ≡ true → (NoneIs profile (l .zone) (l .command) fs → ⊥) → Known fs l
   known-by fs l e some =
       let c = legal-cell profile l e in
       let h = history-promise profile (l .zone) (l .command) (c .0) (c .1) fs in
       go h (h .either)
     where
-      go : {i : ℕ} {k : trackerCell profile (l .zone) (l .command) ≡ cell.At i} → HistoryPromise profile (l .zone) (l .command) i k fs
-          → NoneOf profile (l .zone) (l .command) fs ⊎ ((x : ℕ) × Last profile (l .zone) (l .command) fs x) → Known fs l
+      go : {row : Row} {has : HasCell profile (l .zone) (l .command) row} → HistoryPromise profile (l .zone) (l .command) row has fs
+          → NoneIs profile (l .zone) (l .command) fs ⊎ ((x : ℕ) × Last profile (l .zone) (l .command) fs x) → Known fs l
       go h (inl none) = absurd (some none)
       go h (inr w) = (w .0, h .last (w .0) (w .1))
 
   all-known : (earlier : List BroughtAnswer) (ls : List Line) → Each (λ (l : Line). isLegal profile l ≡ true) ls → Each (Known (earlier ++ answersOf ls)) ls
   all-known earlier [] w = tt
   all-known earlier (l ∷ ls) w =
-      let here : NoneOf profile (l .zone) (l .command) (earlier ++ answerOf l ∷ answersOf ls) → ⊥ =
+      let here : NoneIs profile (l .zone) (l .command) (earlier ++ answerOf l ∷ answersOf ls) → ⊥ =
       λ n. none-behind profile (l .zone) (l .command) earlier (answerOf l ∷ answersOf ls) n .0 (line-status profile s legal l (w .0)) in (
         known-by (earlier ++ answerOf l ∷ answersOf ls) l (w .0) here,
         subst (λ (fs : List BroughtAnswer). Each (Known fs) ls) (append-assoc earlier (answerOf l ∷ []) (answersOf ls)) (all-known (earlier ++ answerOf l ∷ []) ls (w .1)),
@@ -189,7 +192,7 @@ module _ (profile : Profile) (s : Settings) (legal : Legal profile s) where
 
 -- a line whose cell is known to the tracker, and true of the unit, and set in the unit, holds
 module _ (t : Tracker) (now : Settings) (true-now : (zone command b : ℕ) → keptIn t zone command ≡ Value b → now (value zone command) ≡ b) where
-  all-hold : (ls : List Line) → Each (λ (l : Line). (b : ℕ) × (keptIn t (l .zone) (l .command) ≡ Value b)) ls → Each (λ (l : Line). now (settingOf l) ≡ l .value) ls → AllHold t ls
+  all-hold : (ls : List Line) → Each (λ (l : Line). (b : ℕ) × (keptIn t (l .zone) (l .command) ≡ Value b)) ls → Each (λ (l : Line). now (settingOf l) ≡ l .value) ls → Each (IsHeld t) ls
   all-hold [] k h = tt
   all-hold (l ∷ ls) k h =
       let same : k .0 .0 ≡ l .value = sym (true-now (l .zone) (l .command) (k .0 .0) (k .0 .1)) ∙ h .0 in

@@ -12,25 +12,25 @@ use Rattle.frame.specs.Frame.{frameOf}
 use Rattle.fields.specs.Fields.{dataIn}
 use Rattle.frame.specs.declared.direction.Direction.the-variants.{Command, Answer}
 use Rattle.row.specs.declared.profile.Profile.{Profile}
+use Rattle.row.specs.declared.table.Row.{Row}
 use Rattle.message.specs.Content.{contentOf}
 use Rattle.message.specs.Message.{said, readOf}
 use Rattle.message.specs.declared.read.Said.{Said}
 use Rattle.message.specs.declared.read.Message.the-variants as message
 use Rattle.message.specs.declared.read.Reading.the-variants as reading
 use Rattle.sheet.specs.declared.line.Line.{Line}
-use Rattle.tracker.specs.Cell.{cellOf}
+use Rattle.tracker.specs.CellPromise.{HasCell}
 use Rattle.tracker.specs.Tracker.{freshTracker, keptIn}
-use Rattle.tracker.specs.Feed as feed
-use Rattle.tracker.specs.Feed.{BroughtAnswer, answersFed}
+use Rattle.tracker.specs.Feed.{answerFed, BroughtAnswer, answersFed}
 use Rattle.tracker.specs.FeedPromise.{FeedPromise}
 use Rattle.signing.specs.Sign.{signOff}
-use Rattle.signing.specs.SignPromise.{AllHold}
-use Rattle.signing.specs.Capture.{broughtBy}
-use Rattle.tracker.specs.declared.cell.Cell as tracked
-use Rattle.tracker.specs.declared.cell.Cell.the-variants as cell
+use Rattle.tracker.specs.Capture.{broughtBy}
+use Rattle.signing.specs.SignPromise.{IsHeld}
 use Rattle.tracker.specs.declared.tracker.Tracker.{Tracker}
 use Rattle.tracker.specs.declared.tracker.Kept.the-variants as kept
 use Rattle.signing.specs.declared.sign.Signed.the-variants.{Yes}
+use Rattle.tracker.proofs.Cells.{cell-or-none}
+use Rattle.tracker.proofs.Keeps.{none-kept}
 use Rattle.tracker.proofs.Feeds.{feed-promise}
 use Rattle.tracker.proofs.History.{Fit, fit-all, fed-append, history-promise}
 use Rattle.signing.proofs.Signs.{sign-promise}
@@ -40,11 +40,12 @@ use Rattle.unit.specs.Unit.{Setting, value, input, Settings, sameSetting
 use Rattle.unit.specs.Legal.{Legal}
 use Rattle.unit.specs.Sending as sending
 use Rattle.lists.specs.Each.{Each}
+use Rattle.lists.proofs.Each.{each-map}
 use Rattle.unit.specs.TruthPromise.{tracked as tracked-by, TruthPromise}
 use Rattle.unit.proofs.Acts.{either, Accepted}
 use Rattle.unit.proofs.Answers.{denied-reads, reads-said, which-cell}
 use Rattle.unit.proofs.Streams.{by-frame, unit-promise}
-use Rattle.signing.proofs.Frames.{brought-none, brought-one, brought-behind}
+use Rattle.tracker.proofs.Frames.{brought-none, brought-one, brought-behind}
 
 -- answers that stand before others bring what they bring alone
 abbrev Splits : List ℕ → Type 0
@@ -103,7 +104,7 @@ module _ (profile : Profile) (t : Tracker) (fit : Fit profile t) (s : Settings) 
     (which : (x ≡ value z k) ⊎ ((i : ℕ) × (x ≡ input i))) (said : Said)
     (reads : readOf profile Answer z k 0x00 (shown x (put s x v x)) ≡ reading.Message (message.Status said)) where
   abbrev next : Tracker
-  next = feed.afterAnswer t z k 0x00 (shown x (put s x v x))
+  next = answerFed t z k 0x00 (shown x (put s x v x)) .tracker
 
   promise : FeedPromise t z k 0x00 (shown x (put s x v x))
   promise = feed-promise t z k 0x00 (shown x (put s x v x))
@@ -125,9 +126,9 @@ module _ (profile : Profile) (t : Tracker) (fit : Fit profile t) (s : Settings) 
       go (inr e) = ap (λ (y : Setting). cond (sameSetting y (value zone command)) v (s (value zone command))) (e .1)
 
   -- its own
-  own-known : (i : ℕ) → cellOf profile z k ≡ cell.At i → (b : ℕ) → keptIn next z k ≡ kept.Value b → put s x v (value z k) ≡ b
-  own-known i c b e =
-      let w = promise .known (fit .1) said (rw (fit .0) reads) i (rw (fit .0) c) in
+  own-known : (row : Row) → HasCell profile z k row → (b : ℕ) → keptIn next z k ≡ kept.Value b → put s x v (value z k) ≡ b
+  own-known row c b e =
+      let w = promise .known (fit .1) said (rw (fit .0) reads) row (rw (fit .0) c) in
       go which (w .1 ∙ ap (λ (n : ℕ). n ∷ []) (value-same (w .0) b (sym (w .2) ∙ e)))
     where
       go : (x ≡ value z k) ⊎ ((i : ℕ) × (x ≡ input i)) → shown x (put s x v x) ≡ b ∷ [] → put s x v (value z k) ≡ b
@@ -136,15 +137,13 @@ module _ (profile : Profile) (t : Tracker) (fit : Fit profile t) (s : Settings) 
       go (inr f) h = absurd (two-not (f .0) (put s x v x) b (ap (λ (y : Setting). shown y (put s x v x)) (sym (f .1)) ∙ h))
 
   own : (b : ℕ) → keptIn next z k ≡ kept.Value b → put s x v (value z k) ≡ b
-  unfolding keptIn
-  own b e = go (cellOf profile z k) refl
+  own b e = go (cell-or-none profile z k)
     where
-      go : (y : tracked.Cell) → cellOf profile z k ≡ y → put s x v (value z k) ≡ b
-      go (cell.At i) f = own-known i f b e
-      go cell.NoCell f =
-          let here : cellOf (t .profile) z k ≡ cell.NoCell = ap (λ (p : Profile). cellOf p z k) (fit .0) ∙ f in
-          let none : keptIn t z k ≡ kept.NoCell = rw here in
-          absurd (no-cell-not b (sym none ∙ sym (ap (λ (y : Tracker). keptIn y z k) (promise .left-out here)) ∙ e))
+      go : ((row : Row) × HasCell profile z k row) ⊎ ((row : Row) → HasCell profile z k row → ⊥) → put s x v (value z k) ≡ b
+      go (inl h) = own-known (h .0) (h .1) b e
+      go (inr f) =
+          let here : (row : Row) → HasCell (t .profile) z k row → ⊥ = rw (fit .0) f in
+          absurd (no-cell-not b (sym (none-kept t z k here) ∙ sym (ap (λ (y : Tracker). keptIn y z k) (promise .left-out here)) ∙ e))
 
   true-shown : True next (put s x v)
   true-shown zone command b e = go (eqb zone z) (eqb command k) refl refl
@@ -165,7 +164,7 @@ module _ (profile : Profile) (s : Settings) (legal : Legal profile s) (t : Track
   abbrev Heard : Done → Type 0
   Heard d = True (answersFed t (broughtBy (d .answer))) (d .settings)
 
-  one-fed : (zone command ac : ℕ) (body : List ℕ) → answersFed t (broughtBy (frameOf Answer zone command ac body)) ≡ feed.afterAnswer t zone command ac body
+  one-fed : (zone command ac : ℕ) (body : List ℕ) → answersFed t (broughtBy (frameOf Answer zone command ac body)) ≡ answerFed t zone command ac body .tracker
   unfolding answersFed
   one-fed zone command ac body = ap (answersFed t) (brought-one zone command ac body)
 
@@ -207,24 +206,21 @@ true-on u (b ∷ bs) legal t fit h =
     (sym (ap (answersFed t) (done-splits u b (replies (takes u b) bs)) ∙ fed-append t (broughtBy (done u b .answer)) (broughtBy (replies (takes u b) bs)))) rest
 
 fresh-true : (profile : Profile) (s : Settings) → True (freshTracker profile) s
-unfolding keptIn answersFed
-fresh-true profile s zone command b e = go (cellOf profile zone command) refl
+unfolding answersFed
+fresh-true profile s zone command b e = go (cell-or-none profile zone command)
   where
     unknown-not : kept.Unknown ≡ kept.Value b → ⊥
     unknown-not f = let z : _≡_ {A = ℕ} 0 1 = cc in omega arith
 
-    go : (y : tracked.Cell) → cellOf profile zone command ≡ y → s (value zone command) ≡ b
-    go (cell.At i) f = absurd (unknown-not (sym (history-promise profile zone command i f [] .unknown tt) ∙ e))
-    go cell.NoCell f =
-        let none : keptIn (freshTracker profile) zone command ≡ kept.NoCell = rw f in
-        absurd (no-cell-not b (sym none ∙ e))
+    go : ((row : Row) × HasCell profile zone command row) ⊎ ((row : Row) → HasCell profile zone command row → ⊥) → s (value zone command) ≡ b
+    go (inl h) = absurd (unknown-not (sym (history-promise profile zone command (h .0) (h .1) [] .unknown tt) ∙ e))
+    go (inr none) = absurd (no-cell-not b (sym (none-kept (freshTracker profile) zone command none) ∙ e))
 
 pub known-true : (u : Unit) (sent : List ℕ) → Legal (u .profile) (u .settings) → True (tracked-by (u .profile) (replies u sent)) (after u sent .settings)
 known-true u sent legal = true-on u sent legal (freshTracker (u .profile)) (refl, (refl, refl)) (fresh-true (u .profile) (u .settings))
 
-held-by : (t : Tracker) (s : Settings) → True t s → (ls : List Line) → AllHold t ls → Each (λ (l : Line). s (sending.settingOf l) ≡ l .value) ls
-held-by t s h [] w = tt
-held-by t s h (l ∷ ls) w = (h (l .zone) (l .command) (l .value) (w .0), held-by t s h ls (w .1))
+held-by : (t : Tracker) (s : Settings) → True t s → (ls : List Line) → Each (IsHeld t) ls → Each (λ (l : Line). s (sending.settingOf l) ≡ l .value) ls
+held-by t s h ls w = each-map (IsHeld t) (λ (l : Line). s (sending.settingOf l) ≡ l .value) ls (λ l e. h (l .zone) (l .command) (l .value) e) w
 
 pub truth-promise : (u : Unit) (sent : List ℕ) → TruthPromise u sent
 truth-promise u sent = record {

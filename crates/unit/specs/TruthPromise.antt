@@ -15,7 +15,8 @@ use Rattle.sheet.specs.declared.check.Verdict.the-variants as verdict
 use Rattle.tracker.specs.Tracker.{freshTracker, keptIn}
 use Rattle.tracker.specs.Feed.{answersFed}
 use Rattle.signing.specs.Sign.{signOff}
-use Rattle.signing.specs.Capture.{broughtBy, captureSigned}
+use Rattle.tracker.specs.Capture.{broughtBy}
+use Rattle.signing.specs.Capture.{captureSigned}
 use Rattle.tracker.specs.declared.tracker.Tracker.{Tracker}
 use Rattle.tracker.specs.declared.tracker.Kept.the-variants.{Value}
 use Rattle.signing.specs.declared.sign.Signed.the-variants.{Yes}

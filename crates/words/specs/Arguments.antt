@@ -5,6 +5,9 @@ use mathlib.Core.List.{List, [], _∷_}
 use lib.Dec.{eqb, leb, ltb}
 use lib.ListN.{length, getD, set, replicate}
 use Rattle.lent.specs.Placed.{bytesAt}
+use Rattle.characters.specs.Hex.{hexValue}
+use Rattle.characters.specs.declared.hex.HexValue.{HexValue}
+use Rattle.characters.specs.declared.hex.HexValue.the-variants.{Value, NotHex}
 use Rattle.words.specs.declared.arguments.Arguments.{Arguments}
 
 -- nothing is taken; 16 stands for a word with no characters
@@ -61,22 +64,17 @@ dashedOf a =
     (record { name = a .name; count = a .count; at = a .at; half = 18; byte = a .byte; ends = a .ends })
     (badOf a)
 
--- "either case"; 16 for a character that is no digit
-unfoldable pub digitOf : ℕ → ℕ
-digitOf x =
-    cond
-    (ltb x 0x30)
-    16
-    (cond
-    (leb x 0x39)
-    (x - 0x30)
-    (cond
-    (ltb x 0x41)
-    16
-    (cond
-    (leb x 0x46)
-    (x - 0x41 + 10)
-    (cond (ltb x 0x61) 16 (cond (leb x 0x66) (x - 0x61 + 10) 16)))))
+-- "either case": a small hex letter as its capital
+unfoldable pub capitalOf : ℕ → ℕ
+capitalOf x = cond (ltb x 0x61) x (cond (ltb 0x66 x) x (x - 0x61 + 0x41))
+
+-- 16 for a character that is no digit
+abbrev pub digitIn : HexValue → ℕ
+digitIn (Value d) = d
+digitIn NotHex = 16
+
+abbrev pub digitOf : ℕ → ℕ
+digitOf x = digitIn (hexValue (capitalOf x))
 
 -- "two hex digits a byte": the first waits, the second makes the byte
 unfoldable pub inWordOf : Arguments → ℕ → Arguments

@@ -1,7 +1,9 @@
 // The arguments of a line, character by character, and what they are.
+use characters::hex::HexValue;
+use characters::hex::hex_value;
 use lent::part::bytes_at;
 ghost use mathlib.Core.Path.{_≡_};
-ghost use Rattle.words.specs.Arguments.{noneOf, letterIn, badOf, closedOf, openedOf, namedOf, dashedOf, digitOf, inWordOf, takenOf, keptOf, decodedIn, argumentIn, argumentByte, longerBy, argumentNumber};
+ghost use Rattle.words.specs.Arguments.{noneOf, letterIn, badOf, closedOf, openedOf, namedOf, dashedOf, capitalOf, digitOf, inWordOf, takenOf, keptOf, decodedIn, argumentIn, argumentByte, longerBy, argumentNumber};
 
 // The most arguments that an operation has.
 pub(crate) const MOST: usize = 13;
@@ -30,7 +32,8 @@ pub struct Arguments {
 // Decodes the arguments of a line of that many characters in its own space, from its start on: their bytes take half
 // of their characters.
 pub fn decoded(line: &mut [u8], count: usize) -> Arguments
-    ensures { λ r. ⌜ (r ≡ closedOf (decodedIn count (now (line .entry)) count 0 noneOf .arguments)) × (now (line .exit) ≡ decodedIn count (now (line .entry)) count 0 noneOf .line) ⌝ }
+    ensures answers { λ r. ⌜ r ≡ closedOf (decodedIn count (now (line .entry)) count 0 noneOf .arguments) ⌝ }
+    ensures leaves { λ _. ⌜ now (line .exit) ≡ decodedIn count (now (line .entry)) count 0 noneOf .line ⌝ }
 {
     let mut arguments = none();
     for i in 0..count {
@@ -183,29 +186,27 @@ fn in_word(before: Arguments, value: u8) -> Arguments
     next
 }
 
-// The value of a hex digit; 16 for any other character.
+// The value of a hex digit, of either case; 16 for any other character.
 fn digit(letter: u8) -> u8
     ensures { λ r. ⌜ r ≡ digitOf letter ⌝ }
 {
-    if letter < b'0' {
-        return 16;
+    match hex_value(capital(letter)) {
+        HexValue::Value(value) => value,
+        HexValue::NotHex => 16,
     }
-    if letter <= b'9' {
-        return letter - b'0';
-    }
-    if letter < b'A' {
-        return 16;
-    }
-    if letter <= b'F' {
-        return letter - b'A' + 10;
-    }
+}
+
+// A small hex letter as its capital; any other character as it is.
+fn capital(letter: u8) -> u8
+    ensures { λ r. ⌜ r ≡ capitalOf letter ⌝ }
+{
     if letter < b'a' {
-        return 16;
+        return letter;
     }
-    if letter <= b'f' {
-        return letter - b'a' + 10;
+    if letter > b'f' {
+        return letter;
     }
-    16
+    letter - b'a' + b'A'
 }
 
 // The bytes of an argument, the first at 1.

@@ -50,7 +50,7 @@ use Rattle.sheet.proofs.check.Verdict.Laws as D3′
 use Rattle.sheet.proofs.Sheets.{verdict-together}
 use Rattle.sheet.proofs.sheet.no_lines as g1
 use Rattle.sheet.proofs.sheet.no_lines.Symbol as g1-def
-use Rattle.sheet.proofs.sheet.no_lines.Symbol.{name as #sheet·lines·no-lines}
+use Rattle.sheet.proofs.sheet.no_lines.Symbol.{name as #sheet·sheet·no-lines}
 use Rattle.sheet.proofs.sheet.no_lines.Met as g1-thm
 use Rattle.host.proofs.sheets.with_lines as g2
 use Rattle.host.proofs.sheets.with_lines.Symbol as g2-def
@@ -124,7 +124,7 @@ module _ {M : Type 1} (𝓤 : URA M) (H : Heap 𝓤) (A : Atoms 𝓤) (W : Given
       qed W (‵ (flft κ-lines q-lines) ∷ ‵ Own-lines ∷ []) ∵ suffices ! _ (ends-at 𝓤 H A f.ended stayed (f.clauses 𝓤 H A at-mem run) W bound u-r r (tt, (tt, tt)) (tt, (tt, tt))) $ says ! e $
       nothing ! $ move ! (1 ∷ 0 ∷ []) $ join ! $ frame ! $ nothing ! $ move ! (1 ∷ 0 ∷ []) $ fjoin ! $ owned ! D0.the-row (Is D0.the-row) ((EL.makes D0.the-type D0′.the-plain) 𝓤 H A) profile _ is-profile $ fjoin ! $ frame ! $ owned ! D3.the-row (Is D3.the-row) ((EL.makes D3.the-type D3′.the-plain) 𝓤 H A) r _ is-r $ done !
 
-  module _ (C : Calls 𝓤 H) (Λ : Loops 𝓤 H) (fm : FmC 𝓤 H (W .laws) C) (known-g1 : Triple 𝓤 (C #sheet·lines·no-lines) (Called-g1 𝓤 H A at-mem run)) (known-g2 : Triple 𝓤 (C #host·sheets·with-lines) (Called-g2 𝓤 H A at-mem run)) (known-g3 : Triple 𝓤 (C #sheet·check·checked) (Called-g3 𝓤 H A at-mem run)) where
+  module _ (C : Calls 𝓤 H) (Λ : Loops 𝓤 H) (fm : FmC 𝓤 H (W .laws) C) (known-g1 : Triple 𝓤 (C #sheet·sheet·no-lines) (Called-g1 𝓤 H A at-mem run)) (known-g2 : Triple 𝓤 (C #host·sheets·with-lines) (Called-g2 𝓤 H A at-mem run)) (known-g3 : Triple 𝓤 (C #sheet·check·checked) (Called-g3 𝓤 H A at-mem run)) where
     walk : ent 𝓤 (onEntry 𝓤 H A f.signature (κ-lines, tt) (q-lines, tt) (profile, (ref-lines, tt)) (EL.val D0.the-type D0′.the-laws profile ∷ [], (sliceVal (b-lines, o-lines) (length lines) ∷ [], tt))) (WpFn 𝓤 H C Λ code.function (EL.val D0.the-type D0′.the-laws profile ∷ sliceVal (b-lines, o-lines) (length lines) ∷ []) Post)
     walk =
         qed W ((‵ (flft κ-lines q-lines) ⊛ ‵ ftrue) ∷ ‵ (owns (D0.the-row ∷ ShrSlice (named 0) κ-lines D1.the-row ∷ []) (profile, (ref-lines, tt)) (EL.val D0.the-type D0′.the-laws profile ∷ [], (sliceVal (b-lines, o-lines) (length lines) ∷ [], tt))) ∷ []) ∵ enter ! C Λ code.function (EL.val D0.the-type D0′.the-laws profile ∷ sliceVal (b-lines, o-lines) (length lines) ∷ []) _ $
@@ -153,14 +153,14 @@ module _ {M : Type 1} (𝓤 : URA M) (H : Heap 𝓤) (A : Atoms 𝓤) (W : Given
         move ! (12 ∷ 13 ∷ []) $ free1 ! $ move ! (10 ∷ 11 ∷ []) $ free1 ! $ move ! (8 ∷ 9 ∷ []) $ free1 ! $ move ! (6 ∷ 7 ∷ []) $ free1 ! $ move ! (4 ∷ 5 ∷ []) $ free1 ! $ free0 ! $ keep ! (0 ∷ 1 ∷ []) $ by ! (exits r u-r (e-r ∙ rw (e-sheet, e-empty) (verdict-together profile lines)) is-r))))))))))))))))))
 
 module _ {M : Type 1} (𝓤 : URA M) (H : Heap 𝓤) (A : Atoms 𝓤) (W : Given 𝓤 H A) (at-mem : Memory → SProp 𝓤) (run : Routine → Fun 𝓤) where
-  walks : (C : Calls 𝓤 H) (Λ : Loops 𝓤 H) → FmC 𝓤 H (W .laws) C → Triple 𝓤 (C #sheet·lines·no-lines) (Called-g1 𝓤 H A at-mem run) → Triple 𝓤 (C #host·sheets·with-lines) (Called-g2 𝓤 H A at-mem run) → Triple 𝓤 (C #sheet·check·checked) (Called-g3 𝓤 H A at-mem run) → Walks 𝓤 H A f.ended stayed (WpFn 𝓤 H C Λ code.function) (f.clauses 𝓤 H A at-mem run)
+  walks : (C : Calls 𝓤 H) (Λ : Loops 𝓤 H) → FmC 𝓤 H (W .laws) C → Triple 𝓤 (C #sheet·sheet·no-lines) (Called-g1 𝓤 H A at-mem run) → Triple 𝓤 (C #host·sheets·with-lines) (Called-g2 𝓤 H A at-mem run) → Triple 𝓤 (C #sheet·check·checked) (Called-g3 𝓤 H A at-mem run) → Walks 𝓤 H A f.ended stayed (WpFn 𝓤 H C Λ code.function) (f.clauses 𝓤 H A at-mem run)
   walks C Λ fm k-g1 k-g2 k-g3 = walked 𝓤 H A f.ended stayed (f.clauses 𝓤 H A at-mem run) (WpFn 𝓤 H C Λ code.function) (λ κs. (EL.vals D0.the-type D0′.the-laws, (slice-vals, tt))) (λ κs. (EL.tells D0.the-type D0′.the-laws, (shr-slice-tells (named 0) (κs .0) D1.the-row, tt)))
       (λ κs qs bounds a g₀ are. via 𝓤 _ (fst∗ 𝓤 _ (emp 𝓤)) (walk 𝓤 H A W at-mem run (a .0) (κs .0) (qs .0) (a .1 .0 .ptr .0) (a .1 .0 .ptr .1) (a .1 .0 .name) (a .1 .0 .now) (are .0) (are .1 .0 .0 .1) C Λ fm k-g1 k-g2 k-g3))
 
   goes : AllGo 𝓤 H A W 1 (f.signature .params) (f.ended .kept) stayed
   goes = (goes-none 𝓤 H A W 1 (λ _. D0.the-row) yes (λ κs x f. refl), (goes-none-slice 𝓤 H A W 1 (0 ∷ []) tt (plain (λ _. D1.the-row)) yes, tt))
 
-meets : {M : Type 1} (𝓤 : URA M) (H : Heap 𝓤) (A : Atoms 𝓤) (W : Given 𝓤 H A) (at-mem : Memory → SProp 𝓤) (run : Routine → Fun 𝓤) (𝓣 : Tables 𝓤 H) → Triple 𝓤 (𝓣 .C #sheet·lines·no-lines) (Called-g1 𝓤 H A at-mem run) → Triple 𝓤 (𝓣 .C #host·sheets·with-lines) (Called-g2 𝓤 H A at-mem run) → Triple 𝓤 (𝓣 .C #sheet·check·checked) (Called-g3 𝓤 H A at-mem run)
+meets : {M : Type 1} (𝓤 : URA M) (H : Heap 𝓤) (A : Atoms 𝓤) (W : Given 𝓤 H A) (at-mem : Memory → SProp 𝓤) (run : Routine → Fun 𝓤) (𝓣 : Tables 𝓤 H) → Triple 𝓤 (𝓣 .C #sheet·sheet·no-lines) (Called-g1 𝓤 H A at-mem run) → Triple 𝓤 (𝓣 .C #host·sheets·with-lines) (Called-g2 𝓤 H A at-mem run) → Triple 𝓤 (𝓣 .C #sheet·check·checked) (Called-g3 𝓤 H A at-mem run)
     → Meets 𝓤 H A f.signature (WpFn 𝓤 H (𝓣 .C) (𝓣 .Λ) code.function) (f.spec 𝓤 H A at-mem run)
 meets 𝓤 H A W at-mem run 𝓣 k-g1 k-g2 k-g3 = walk-meets 𝓤 H A f.ended stayed W (goes 𝓤 H A W at-mem run) (f.clauses 𝓤 H A at-mem run) (WpFn 𝓤 H (𝓣 .C) (𝓣 .Λ) code.function) (WpFn-mono 𝓤 H (W .laws) 𝓣 code.function)
     (walks 𝓤 H A W at-mem run (𝓣 .C) (𝓣 .Λ) (fmOf 𝓤 H (W .laws) 𝓣) k-g1 k-g2 k-g3)
@@ -171,6 +171,6 @@ check-sheet-spec 𝓤 H 𝓜 𝓖 𝓡 =
     entered 𝓤 H (tripleOf 𝓤 H (𝓖 .A) f.signature (f.spec 𝓤 H (𝓖 .A) (𝓜 .mem) (𝓡 .run)))
     (tables 𝓤 H 𝓜 𝓡 code.env .C) (tables 𝓤 H 𝓜 𝓡 code.env .Λ) #host·sheets·check-sheet code.function (code.unfolded 𝓤 H 𝓜 𝓡)
     (meets 𝓤 H (𝓖 .A) (givenOf 𝓤 H 𝓜 𝓖) (𝓜 .mem) (𝓡 .run) (tablesOf 𝓤 H 𝓜 (tables 𝓤 H 𝓜 𝓡 code.env))
-    (cited 𝓤 H (Called-g1 𝓤 H (𝓖 .A) (𝓜 .mem) (𝓡 .run)) 𝓜 𝓡 code.env #sheet·lines·no-lines g1-def.routine code.calls-sheet·lines·no-lines (g1-thm.met 𝓤 H 𝓜 𝓖 𝓡))
-    (cited 𝓤 H (Called-g2 𝓤 H (𝓖 .A) (𝓜 .mem) (𝓡 .run)) 𝓜 𝓡 code.env #host·sheets·with-lines g2-def.routine code.calls-host·list·with-lines (g2-thm.met 𝓤 H 𝓜 𝓖 𝓡))
+    (cited 𝓤 H (Called-g1 𝓤 H (𝓖 .A) (𝓜 .mem) (𝓡 .run)) 𝓜 𝓡 code.env #sheet·sheet·no-lines g1-def.routine code.calls-sheet·sheet·no-lines (g1-thm.met 𝓤 H 𝓜 𝓖 𝓡))
+    (cited 𝓤 H (Called-g2 𝓤 H (𝓖 .A) (𝓜 .mem) (𝓡 .run)) 𝓜 𝓡 code.env #host·sheets·with-lines g2-def.routine code.calls-host·sheets·with-lines (g2-thm.met 𝓤 H 𝓜 𝓖 𝓡))
     (cited 𝓤 H (Called-g3 𝓤 H (𝓖 .A) (𝓜 .mem) (𝓡 .run)) 𝓜 𝓡 code.env #sheet·check·checked g3-def.routine code.calls-sheet·check·checked (g3-thm.met 𝓤 H 𝓜 𝓖 𝓡)))

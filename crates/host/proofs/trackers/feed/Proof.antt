@@ -1,4 +1,4 @@
--- `host::track::feed` meets its contract: a walk of its MIR, by hand. The struct is copied out and passed to `after_answer`; of what that returns one field is stored, and the other is returned.
+-- `host::trackers::feed` meets its contract: a walk of its MIR, by hand. The struct is copied out and passed to `after_answer`; of what that returns one field is stored, and the other is returned.
 -- Assumes nothing.
 use mathlib.Core.Path.{_≡_, refl, ap}
 use Prim.Native.Nat.{ℕ}
@@ -38,7 +38,7 @@ use denote.Triple.Call.{calls-at}
 use denote.Triple.Entry.{onEntry}
 use denote.Triple.Spec.{Meets, tripleOf}
 use denote.Triple.Table.{entered, cited}
-use denote.Triple.Walked.{says, Stays, stay-ref, stay-none-slice, stay-none, walkOf, AllGo, goes-none, goes-ref, goes-none-slice, Walks, ends-at, walked, walk-meets}
+use denote.Triple.Walked.{Stays, stay-ref, stay-none-slice, stay-none, walkOf, AllGo, goes-none, goes-ref, goes-none-slice, Walks, ends-at, walked, walk-meets}
 use denote.Triple.Clauses.{ensured, lasts}
 use denote.Exit.{yes}
 use Rattle.tracker.specs.Feed.{answerFed}
@@ -54,7 +54,8 @@ use Rattle.tracker.proofs.feed.after_answer as g
 use Rattle.tracker.proofs.feed.after_answer.Symbol as g-def
 use Rattle.tracker.proofs.feed.after_answer.Symbol.{name as #tracker·feed·after-answer}
 use Rattle.tracker.proofs.feed.after_answer.Met as g-thm
-use Rattle.host.proofs.trackers.feed.Key.{name as #host·track·feed}
+use Rattle.host.proofs.Said.{says-both}
+use Rattle.host.proofs.trackers.feed.Key.{name as #host·trackers·feed}
 use Rattle.host.proofs.trackers.feed as f
 use Rattle.host.proofs.trackers.feed.Statement as stated
 use Rattle.host.proofs.trackers.feed.Code as code
@@ -104,7 +105,7 @@ module _ {M : Type 1} (𝓤 : URA M) (H : Heap 𝓤) (A : Atoms 𝓤) (W : Given
   exits : (r : Fed) → r ≡ answerFed h zone command answer body → Is D2.the-row (r .reading) (EL.val D2.the-type D2′.the-laws (r .reading) ∷ []) → ent 𝓤 (⋆ 𝓤 H A (‵ (fobs γ (T.the-row .coded .code (r .tracker))) ∷ ‵ (fbor κ (Body (mem T.the-row) b o γ)) ∷ ‵ (flft κ q) ∷ ‵ (flft κ-body q-body) ∷ ‵ Own-body ∷ [])) (Post (EL.val D2.the-type D2′.the-laws (r .reading)))
   exits r e is₁ =
       qed W (‵ (fobs γ (T.the-row .coded .code (r .tracker))) ∷ ‵ (fbor κ (Body (mem T.the-row) b o γ)) ∷ ‵ (flft κ q) ∷ ‵ (flft κ-body q-body) ∷ ‵ Own-body ∷ []) ∵
-      suffices ! _ (ends-at 𝓤 H A f.ended stayed (f.clauses 𝓤 H A at-mem run) W (((κ, (κ-body, tt)), (q, (q-body, tt)), tt, x, at), tt) (EL.val D2.the-type D2′.the-laws (r .reading)) (r .reading) ((r .tracker), (tt, (tt, (tt, (tt, tt))))) (tt, (tt, (tt, (tt, (tt, tt)))))) $ says ! (ap (λ (y : Fed). y .reading) e, ap (λ (y : Fed). y .tracker) e) $
+      suffices ! _ (ends-at 𝓤 H A f.ended stayed (f.clauses 𝓤 H A at-mem run) W (((κ, (κ-body, tt)), (q, (q-body, tt)), tt, x, at), tt) (EL.val D2.the-type D2′.the-laws (r .reading)) (r .reading) ((r .tracker), (tt, (tt, (tt, (tt, tt))))) (tt, (tt, (tt, (tt, (tt, tt)))))) $ says-both ! (ap (λ (y : Fed). y .reading) e, ap (λ (y : Fed). y .tracker) e) $
       nothing ! $ move ! (4 ∷ 0 ∷ []) $ join ! $ move ! (3 ∷ 0 ∷ []) $ join ! $ frame ! $ feqI ! (List Val) (vptr b o ∷ []) (vptr b o ∷ []) refl $ fjoin3 ! $ nothing ! $ move ! (2 ∷ 0 ∷ []) $ fjoin ! $ owned ! u8 (Is u8) (uint-makes 𝓤 H A W w8) answer _ is-answer $ fjoin ! $ owned ! u8 (Is u8) (uint-makes 𝓤 H A W w8) command _ is-command $ fjoin ! $ owned ! u8 (Is u8) (uint-makes 𝓤 H A W w8) zone _ is-zone $ fjoin ! $ move ! (1 ∷ 0 ∷ []) $ fjoin ! $ frame ! $ owned ! D2.the-row (Is D2.the-row) ((EL.makes D2.the-type D2′.the-plain) 𝓤 H A) (r .reading) _ is₁ $ done !
 
   module _ (C : Calls 𝓤 H) (Λ : Loops 𝓤 H) (fm : FmC 𝓤 H (W .laws) C) (known : Triple 𝓤 (C #tracker·feed·after-answer) (Called 𝓤 H A at-mem run)) where
@@ -146,6 +147,6 @@ pub feed-spec : {M : Type 1} → stated.statement M
 unfolding code.routine tablesOf
 feed-spec 𝓤 H 𝓜 𝓖 𝓡 =
     entered 𝓤 H (tripleOf 𝓤 H (𝓖 .A) f.signature (f.spec 𝓤 H (𝓖 .A) (𝓜 .mem) (𝓡 .run)))
-    (tables 𝓤 H 𝓜 𝓡 code.env .C) (tables 𝓤 H 𝓜 𝓡 code.env .Λ) #host·track·feed code.function (code.unfolded 𝓤 H 𝓜 𝓡)
+    (tables 𝓤 H 𝓜 𝓡 code.env .C) (tables 𝓤 H 𝓜 𝓡 code.env .Λ) #host·trackers·feed code.function (code.unfolded 𝓤 H 𝓜 𝓡)
     (meets 𝓤 H (𝓖 .A) (givenOf 𝓤 H 𝓜 𝓖) (𝓜 .mem) (𝓡 .run) (tablesOf 𝓤 H 𝓜 (tables 𝓤 H 𝓜 𝓡 code.env))
     (cited 𝓤 H (Called 𝓤 H (𝓖 .A) (𝓜 .mem) (𝓡 .run)) 𝓜 𝓡 code.env #tracker·feed·after-answer g-def.routine code.calls-tracker·feed·after-answer (g-thm.met 𝓤 H 𝓜 𝓖 𝓡)))

@@ -1,4 +1,4 @@
--- `host::track::feed_capture` meets its contract: a walk of its MIR, by hand. The struct is copied out and passed to `after_capture`; of what that returns one field is stored, and the other is returned.
+-- `host::trackers::feed_capture` meets its contract: a walk of its MIR, by hand. The struct is copied out and passed to `after_capture`; of what that returns one field is stored, and the other is returned.
 -- Assumes nothing.
 use mathlib.Core.Path.{_≡_, refl, ap}
 use Prim.Native.Nat.{ℕ}
@@ -37,23 +37,24 @@ use denote.Triple.Call.{calls-at}
 use denote.Triple.Entry.{onEntry}
 use denote.Triple.Spec.{Meets, tripleOf}
 use denote.Triple.Table.{entered, cited}
-use denote.Triple.Walked.{says, Stays, stay-ref, stay-none-slice, walkOf, AllGo, goes-ref, goes-none-slice, Walks, ends-at, walked, walk-meets}
+use denote.Triple.Walked.{Stays, stay-ref, stay-none-slice, walkOf, AllGo, goes-ref, goes-none-slice, Walks, ends-at, walked, walk-meets}
 use denote.Triple.Clauses.{ensured, lasts}
 use denote.Exit.{yes}
-use Rattle.signing.specs.Capture.{captureFed}
+use Rattle.tracker.specs.Capture.{captureFed}
 use Rattle.tracker.specs.declared.tracker.Tracker.{Tracker}
-use Rattle.signing.specs.declared.capture.CaptureFed.{CaptureFed}
+use Rattle.tracker.specs.declared.capture.CaptureFed.{CaptureFed}
 use Rattle.tracker.proofs.tracker.Tracker as T
 use Rattle.tracker.proofs.tracker.Tracker.Laws as T′
-use Rattle.signing.proofs.capture.CaptureFed as D1
-use Rattle.signing.proofs.capture.CaptureFed.Laws as D1′
-use Rattle.signing.proofs.capture.CaptureAnswer as D2
-use Rattle.signing.proofs.capture.CaptureAnswer.Laws as D2′
-use Rattle.signing.proofs.capture.after_capture as g
-use Rattle.signing.proofs.capture.after_capture.Symbol as g-def
-use Rattle.signing.proofs.capture.after_capture.Symbol.{name as #signing·capture·after-capture}
-use Rattle.signing.proofs.capture.after_capture.Met as g-thm
-use Rattle.host.proofs.trackers.feed_capture.Key.{name as #host·track·feed-capture}
+use Rattle.tracker.proofs.capture.CaptureFed as D1
+use Rattle.tracker.proofs.capture.CaptureFed.Laws as D1′
+use Rattle.tracker.proofs.capture.CaptureAnswer as D2
+use Rattle.tracker.proofs.capture.CaptureAnswer.Laws as D2′
+use Rattle.tracker.proofs.capture.after_capture as g
+use Rattle.tracker.proofs.capture.after_capture.Symbol as g-def
+use Rattle.tracker.proofs.capture.after_capture.Symbol.{name as #tracker·capture·after-capture}
+use Rattle.tracker.proofs.capture.after_capture.Met as g-thm
+use Rattle.host.proofs.Said.{says-both}
+use Rattle.host.proofs.trackers.feed_capture.Key.{name as #host·trackers·feed-capture}
 use Rattle.host.proofs.trackers.feed_capture as f
 use Rattle.host.proofs.trackers.feed_capture.Statement as stated
 use Rattle.host.proofs.trackers.feed_capture.Code as code
@@ -103,10 +104,10 @@ module _ {M : Type 1} (𝓤 : URA M) (H : Heap 𝓤) (A : Atoms 𝓤) (W : Given
   exits : (r : CaptureFed) → r ≡ captureFed h capture → Is D2.the-row (r .answer) (EL.val D2.the-type D2′.the-laws (r .answer) ∷ []) → ent 𝓤 (⋆ 𝓤 H A (‵ (fobs γ (T.the-row .coded .code (r .tracker))) ∷ ‵ (fbor κ (Body (mem T.the-row) b o γ)) ∷ ‵ (flft κ q) ∷ ‵ (flft κ-capture q-capture) ∷ ‵ Own-capture ∷ [])) (Post (EL.val D2.the-type D2′.the-laws (r .answer)))
   exits r e is₁ =
       qed W (‵ (fobs γ (T.the-row .coded .code (r .tracker))) ∷ ‵ (fbor κ (Body (mem T.the-row) b o γ)) ∷ ‵ (flft κ q) ∷ ‵ (flft κ-capture q-capture) ∷ ‵ Own-capture ∷ []) ∵
-      suffices ! _ (ends-at 𝓤 H A f.ended stayed (f.clauses 𝓤 H A at-mem run) W (((κ, (κ-capture, tt)), (q, (q-capture, tt)), tt, x, at), tt) (EL.val D2.the-type D2′.the-laws (r .answer)) (r .answer) ((r .tracker), (tt, tt)) (tt, (tt, tt))) $ says ! (ap (λ (y : CaptureFed). y .answer) e, ap (λ (y : CaptureFed). y .tracker) e) $
+      suffices ! _ (ends-at 𝓤 H A f.ended stayed (f.clauses 𝓤 H A at-mem run) W (((κ, (κ-capture, tt)), (q, (q-capture, tt)), tt, x, at), tt) (EL.val D2.the-type D2′.the-laws (r .answer)) (r .answer) ((r .tracker), (tt, tt)) (tt, (tt, tt))) $ says-both ! (ap (λ (y : CaptureFed). y .answer) e, ap (λ (y : CaptureFed). y .tracker) e) $
       nothing ! $ move ! (4 ∷ 0 ∷ []) $ join ! $ move ! (3 ∷ 0 ∷ []) $ join ! $ frame ! $ feqI ! (List Val) (vptr b o ∷ []) (vptr b o ∷ []) refl $ fjoin3 ! $ nothing ! $ move ! (2 ∷ 0 ∷ []) $ fjoin ! $ move ! (1 ∷ 0 ∷ []) $ fjoin ! $ frame ! $ owned ! D2.the-row (Is D2.the-row) ((EL.makes D2.the-type D2′.the-plain) 𝓤 H A) (r .answer) _ is₁ $ done !
 
-  module _ (C : Calls 𝓤 H) (Λ : Loops 𝓤 H) (fm : FmC 𝓤 H (W .laws) C) (known : Triple 𝓤 (C #signing·capture·after-capture) (Called 𝓤 H A at-mem run)) where
+  module _ (C : Calls 𝓤 H) (Λ : Loops 𝓤 H) (fm : FmC 𝓤 H (W .laws) C) (known : Triple 𝓤 (C #tracker·capture·after-capture) (Called 𝓤 H A at-mem run)) where
     walk : ent 𝓤 (onEntry 𝓤 H A f.signature (κ, (κ-capture, tt)) (q, (q-capture, tt)) x at) (WpFn 𝓤 H C Λ code.function (vptr b o ∷ sliceVal (b-capture, o-capture) (length capture) ∷ []) Post)
     walk =
         qed W ((‵ (flft κ q) ⊛ (‵ (flft κ-capture q-capture) ⊛ ‵ ftrue)) ∷ ‵ (owns (MutRef (named 0) κ T.the-row ∷ ShrSlice (named 1) κ-capture u8 ∷ []) x at) ∷ []) ∵ enter ! C Λ code.function (vptr b o ∷ sliceVal (b-capture, o-capture) (length capture) ∷ []) _ $
@@ -128,7 +129,7 @@ module _ {M : Type 1} (𝓤 : URA M) (H : Heap 𝓤) (A : Atoms 𝓤) (W : Given
         move ! (15 ∷ 16 ∷ []) $ free1 ! $ move ! (13 ∷ 14 ∷ []) $ free1 ! $ move ! (11 ∷ 12 ∷ []) $ free1 ! $ move ! (9 ∷ 10 ∷ []) $ free1 ! $ move ! (7 ∷ 8 ∷ []) $ free1 ! $ free0 ! $ keep ! (0 ∷ 1 ∷ 2 ∷ 3 ∷ 5 ∷ []) $ by ! (exits r e is₁))))))))))))
 
 module _ {M : Type 1} (𝓤 : URA M) (H : Heap 𝓤) (A : Atoms 𝓤) (W : Given 𝓤 H A) (at-mem : Memory → SProp 𝓤) (run : Routine → Fun 𝓤) where
-  walks : (C : Calls 𝓤 H) (Λ : Loops 𝓤 H) → FmC 𝓤 H (W .laws) C → Triple 𝓤 (C #signing·capture·after-capture) (Called 𝓤 H A at-mem run) → Walks 𝓤 H A f.ended stayed (WpFn 𝓤 H C Λ code.function) (f.clauses 𝓤 H A at-mem run)
+  walks : (C : Calls 𝓤 H) (Λ : Loops 𝓤 H) → FmC 𝓤 H (W .laws) C → Triple 𝓤 (C #tracker·capture·after-capture) (Called 𝓤 H A at-mem run) → Walks 𝓤 H A f.ended stayed (WpFn 𝓤 H C Λ code.function) (f.clauses 𝓤 H A at-mem run)
   walks C Λ fm known = walked 𝓤 H A f.ended stayed (f.clauses 𝓤 H A at-mem run) (WpFn 𝓤 H C Λ code.function) (λ κs. (ptr-vals, (slice-vals, tt))) (λ κs. (mut-tells (named 0) (κs .0) T.the-row, (shr-slice-tells (named 1) (κs .1 .0) u8, tt)))
       (λ κs qs bounds a g₀ are. via 𝓤 _ (fst∗ 𝓤 _ (emp 𝓤)) (walk 𝓤 H A W at-mem run (κs .0) (qs .0) (a .0 .ptr .0) (a .0 .ptr .1) (a .0 .name) (a .0 .now) (κs .1 .0) (qs .1 .0) (a .1 .0 .ptr .0) (a .1 .0 .ptr .1) (a .1 .0 .name) (a .1 .0 .now) (are .1 .0 .0 .1) C Λ fm known))
 
@@ -136,7 +137,7 @@ module _ {M : Type 1} (𝓤 : URA M) (H : Heap 𝓤) (A : Atoms 𝓤) (W : Given
   goes = (goes-ref 𝓤 H A W 2 0 tt (plain (λ _. T.the-row)), (goes-none-slice 𝓤 H A W 2 (1 ∷ []) tt (plain (λ _. u8)) yes, tt))
 
 meets : {M : Type 1} (𝓤 : URA M) (H : Heap 𝓤) (A : Atoms 𝓤) (W : Given 𝓤 H A) (at-mem : Memory → SProp 𝓤) (run : Routine → Fun 𝓤) (𝓣 : Tables 𝓤 H)
-    → Triple 𝓤 (𝓣 .C #signing·capture·after-capture) (Called 𝓤 H A at-mem run)
+    → Triple 𝓤 (𝓣 .C #tracker·capture·after-capture) (Called 𝓤 H A at-mem run)
     → Meets 𝓤 H A f.signature (WpFn 𝓤 H (𝓣 .C) (𝓣 .Λ) code.function) (f.spec 𝓤 H A at-mem run)
 meets 𝓤 H A W at-mem run 𝓣 known = walk-meets 𝓤 H A f.ended stayed W (goes 𝓤 H A W at-mem run) (f.clauses 𝓤 H A at-mem run) (WpFn 𝓤 H (𝓣 .C) (𝓣 .Λ) code.function) (WpFn-mono 𝓤 H (W .laws) 𝓣 code.function)
     (walks 𝓤 H A W at-mem run (𝓣 .C) (𝓣 .Λ) (fmOf 𝓤 H (W .laws) 𝓣) known)
@@ -145,6 +146,6 @@ pub feed-capture-spec : {M : Type 1} → stated.statement M
 unfolding code.routine tablesOf
 feed-capture-spec 𝓤 H 𝓜 𝓖 𝓡 =
     entered 𝓤 H (tripleOf 𝓤 H (𝓖 .A) f.signature (f.spec 𝓤 H (𝓖 .A) (𝓜 .mem) (𝓡 .run)))
-    (tables 𝓤 H 𝓜 𝓡 code.env .C) (tables 𝓤 H 𝓜 𝓡 code.env .Λ) #host·track·feed-capture code.function (code.unfolded 𝓤 H 𝓜 𝓡)
+    (tables 𝓤 H 𝓜 𝓡 code.env .C) (tables 𝓤 H 𝓜 𝓡 code.env .Λ) #host·trackers·feed-capture code.function (code.unfolded 𝓤 H 𝓜 𝓡)
     (meets 𝓤 H (𝓖 .A) (givenOf 𝓤 H 𝓜 𝓖) (𝓜 .mem) (𝓡 .run) (tablesOf 𝓤 H 𝓜 (tables 𝓤 H 𝓜 𝓡 code.env))
-    (cited 𝓤 H (Called 𝓤 H (𝓖 .A) (𝓜 .mem) (𝓡 .run)) 𝓜 𝓡 code.env #signing·capture·after-capture g-def.routine code.calls-signing·capture·after-capture (g-thm.met 𝓤 H 𝓜 𝓖 𝓡)))
+    (cited 𝓤 H (Called 𝓤 H (𝓖 .A) (𝓜 .mem) (𝓡 .run)) 𝓜 𝓡 code.env #tracker·capture·after-capture g-def.routine code.calls-tracker·capture·after-capture (g-thm.met 𝓤 H 𝓜 𝓖 𝓡)))

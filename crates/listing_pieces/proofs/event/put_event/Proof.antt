@@ -1,8 +1,8 @@
 -- `text::event::put_event` meets its contract.
 use mathlib.Core.Path.{sym}
 use Rattle.lent.specs.Placed.{bytesAt}
-use Rattle.listing_text.specs.Letters.{letters}
-use Rattle.listing_text.specs.Number.{decimal}
+use Rattle.characters.specs.Letters.{letters}
+use Rattle.characters.specs.Decimal.{decimal}
 use Rattle.listing_text.specs.Listing.{textLine, eventText}
 use Rattle.listing_pieces.proofs.Puts.{both, said, line-behind}
 use borrow.Author.Needs.{needs}

@@ -1,6 +1,6 @@
 -- `text::event::put_input` meets its contract.
-use Rattle.listing_text.specs.Letters.{letters}
-use Rattle.listing_text.specs.Number.{decimalIn}
+use Rattle.characters.specs.Letters.{letters}
+use Rattle.characters.specs.Decimal.{decimalIn}
 use Rattle.listing_pieces.proofs.Puts.{both}
 use borrow.Author.Needs.{needs}
 use Rattle.listing_pieces.proofs.event.put_input.Statement.{statement}

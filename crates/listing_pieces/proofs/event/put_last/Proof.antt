@@ -1,5 +1,5 @@
 -- `text::event::put_last` meets its contract.
-use Rattle.listing_text.specs.Letters.{letters}
+use Rattle.characters.specs.Letters.{letters}
 use Rattle.listing_pieces.proofs.Puts.{both}
 use borrow.Author.Needs.{needs}
 use Rattle.listing_pieces.proofs.event.put_last.Statement.{statement}

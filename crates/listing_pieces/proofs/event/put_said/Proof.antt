@@ -1,7 +1,8 @@
 -- `text::event::put_said` meets its contract.
 use mathlib.Core.List.{_++_}
-use Rattle.listing_text.specs.Letters.{letters}
-use Rattle.listing_text.specs.Number.{decimal, hexByte}
+use Rattle.characters.specs.Letters.{letters}
+use Rattle.characters.specs.Decimal.{decimal}
+use Rattle.characters.specs.Hex.{hexByte}
 use Rattle.listing_pieces.proofs.Puts.{both, both-behind, wider}
 use borrow.Author.Needs.{needs}
 use Rattle.listing_pieces.proofs.event.put_said.Statement.{statement}

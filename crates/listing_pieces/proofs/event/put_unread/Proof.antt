@@ -1,5 +1,5 @@
 -- `text::event::put_unread` meets its contract.
-use Rattle.listing_text.specs.Letters.{letters}
+use Rattle.characters.specs.Letters.{letters}
 use Rattle.listing_text.specs.Listing.{textLine}
 use Rattle.listing_pieces.proofs.Puts.{both}
 use borrow.Author.Needs.{needs}

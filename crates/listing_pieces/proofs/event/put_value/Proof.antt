@@ -3,7 +3,7 @@ use native.Mathlib.Omega.{arith}
 use mir.Syntax.{w16}
 use mir.Val.{SFits}
 use mir.Facts.{toZ-ofZ}
-use Rattle.listing_text.specs.Letters.{letters}
+use Rattle.characters.specs.Letters.{letters}
 use Rattle.listing_pieces.proofs.Puts.{wider}
 use borrow.Author.Needs.{needs}
 use Rattle.listing_pieces.proofs.event.put_value.Statement.{statement}

@@ -1,6 +1,6 @@
 -- `text::listing::list_refusal` meets its contract.
 use mathlib.Core.Path.{refl}
-use Rattle.listing_text.specs.Letters.{letters}
+use Rattle.characters.specs.Letters.{letters}
 use Rattle.listing_text.specs.Listing.{textLine}
 use Rattle.listing_text.specs.Listing.{refusedText}
 use Rattle.listing_pieces.specs.Pieces.{filled}

@@ -1,7 +1,7 @@
 -- `text::listing::put_next` meets its contract.
 use mathlib.Core.Path.{refl}
 use native.Mathlib.Omega.{arith}
-use Rattle.listing_text.specs.Letters.{letters}
+use Rattle.characters.specs.Letters.{letters}
 use Rattle.listing_pieces.proofs.Puts.{wider, nothing}
 use borrow.Author.Needs.{needs}
 use Rattle.listing_pieces.proofs.piece.put_next.Statement.{statement}

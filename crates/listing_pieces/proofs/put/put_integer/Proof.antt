@@ -1,65 +1,49 @@
--- `text::put::put_integer` meets its contract.
-use mathlib.Core.Path.{ap, _∙_}
-use mathlib.Core.List.{_++_}
-use Prim.Native.Nat.{ℕ}
+-- Five digits at most, and a sign.
+use Prim.Native.Nat.{suc, _≤_}
 use native.Mathlib.Omega.{arith}
-use mir.Facts.{toZ-ofZ}
-use Rattle.listing_text.specs.Letters.{letters}
-use Rattle.listing_text.specs.Number.{decimal}
-use Rattle.listing_pieces.proofs.Sizes.{minus-text, plain-text}
-use Rattle.listing_pieces.proofs.Puts.{both, said, wider}
+use lib.IntN.{ℤ, pos, negsuc}
+use lib.ListN.{length}
+use mir.Syntax.{w16, w32}
+use mir.Val.{SFits}
+use mir.Facts.{sfits-widen, toZ-ofZ}
+use Rattle.characters.specs.Letters.{letters}
+use Rattle.characters.specs.Decimal.{integer}
+use Rattle.characters.proofs.Digits.{decimal-most}
 use borrow.Author.Needs.{needs}
+use Rattle.listing_pieces.proofs.Puts.{wrote, within}
 use Rattle.listing_pieces.proofs.put.put_integer.Statement.{statement}
 use Rattle.listing_pieces.proofs.put.put_integer.Tie as tie
 
-slice-aggregate-put-bytes : tie.Need-slice-aggregate-put-bytes
-slice-aggregate-put-bytes c = search needs
+wide : {z : ℤ} → SFits w16 z → SFits w32 z
+wide fits = sfits-widen tt fits
 
-put-bytes-requires : tie.Need-put-bytes-requires
-put-bytes-requires c κs = search needs
+integer-short : (z : ℤ) → SFits w16 z → length (integer z) ≤ 6
+unfolding letters
+integer-short (pos n) fits = let h = fits .sfits in omega (arith, decimal-most 4 n (omega arith))
+integer-short (negsuc n) fits = let h = fits .sfits in omega (arith, decimal-most 4 (suc n) (omega arith))
 
-size-of-requires : tie.Need-size-of-requires
-size-of-requires c κs = search needs
+cast-write-integer : tie.Need-cast-write-integer
+cast-write-integer c = rw (toZ-ofZ (c .before .before .fits .number)) (wide (c .before .before .fits .number))
 
-put-number-requires : tie.Need-put-number-requires
-put-number-requires c κs = search needs
+write-integer-requires : tie.Need-write-integer-requires
+write-integer-requires c κs = search needs
+
+behind-requires : tie.Need-behind-requires
+behind-requires c κs =
+    let s = c .before .before .before .before .before in
+    let g = s .args in
+    let short : length (integer (g .number)) ≤ 6 = integer-short (g .number) (s .fits .number) in
+    within (g .buf .now) (integer (g .number)) (g .at) (c .before .before .write-integer .result) (omega (arith, short)) (search needs) (rw (toZ-ofZ (s .fits .number), toZ-ofZ (wide (s .fits .number))) at (c .before .before .write-integer .ensures .0))
 
 same-length : tie.Need-same-length
 same-length c = search needs
 
 returns : tie.Need-returns
-unfolding letters
 returns c =
-    let s = c .before .before .before .before .before .before .before .before .before .before .before .before in
-    said (ap (λ (k : ℕ). letters "-" ++ decimal k) (rw (toZ-ofZ (s .fits .number)) at (c .before .before .before .size-of .ensures)) ∙ minus-text (s .args .number) (rw (toZ-ofZ (s .fits .number)) at (c .before .before .before .before .before .before .before .before .before .before .if1 .taken)))
-    (both (search needs) (c .before .before .before .before .before .before .before .put-bytes .ensures) (c .before .before .put-number .ensures))
-
-size-of-requires-2 : tie.Need-size-of-requires-2
-size-of-requires-2 c κs = search needs
-
-put-number-requires-2 : tie.Need-put-number-requires-2
-put-number-requires-2 c κs = search needs
-
-same-length-2 : tie.Need-same-length-2
-same-length-2 c = search needs
-
-returns-2 : tie.Need-returns-2
-returns-2 c =
-    let s = c .before .before .before .before .before .before .before in
-    said (ap decimal (rw (toZ-ofZ (s .fits .number)) at (c .before .before .before .size-of2 .ensures)) ∙ plain-text (s .args .number) (rw (toZ-ofZ (s .fits .number)) at (c .before .before .before .before .before .if1 .left)))
-    (wider (omega arith) (c .before .before .put-number2 .ensures))
+    let s = c .before .before .before .before .before .before in
+    let g = s .args in
+    let short : length (integer (g .number)) ≤ 6 = integer-short (g .number) (s .fits .number) in
+    wrote 6 (c .behind .result) (omega (arith, short)) short (rw (toZ-ofZ (s .fits .number), toZ-ofZ (wide (s .fits .number))) at (c .before .before .before .write-integer .ensures .0)) (rw (toZ-ofZ (s .fits .number), toZ-ofZ (wide (s .fits .number))) at (c .before .before .before .write-integer .ensures .1)) (c .behind .ensures)
 
 pub put-integer-spec : {M : Type 1} → statement M
-put-integer-spec =
-    tie.close
-    (tie.spec
-    slice-aggregate-put-bytes
-    put-bytes-requires
-    size-of-requires
-    put-number-requires
-    same-length
-    returns
-    size-of-requires-2
-    put-number-requires-2
-    same-length-2
-    returns-2)
+put-integer-spec = tie.close (tie.spec cast-write-integer write-integer-requires behind-requires same-length returns)

@@ -1,21 +1,33 @@
--- `text::put::put_number` meets its contract.
+-- A number of 16 bits has at most five digits.
+use Prim.Native.Nat.{_≤_}
 use native.Mathlib.Omega.{arith}
-use Rattle.listing_pieces.proofs.Digits.{places-most}
+use lib.ListN.{length}
+use Rattle.characters.specs.Decimal.{decimal}
+use Rattle.characters.proofs.Digits.{decimal-most}
 use borrow.Author.Needs.{needs}
+use Rattle.listing_pieces.proofs.Puts.{wrote, within}
 use Rattle.listing_pieces.proofs.put.put_number.Statement.{statement}
 use Rattle.listing_pieces.proofs.put.put_number.Tie as tie
 
-places-of-requires : tie.Need-places-of-requires
-places-of-requires c κs = search needs
+write-decimal-requires : tie.Need-write-decimal-requires
+write-decimal-requires c κs = search needs
 
-put-places-requires : tie.Need-put-places-requires
-put-places-requires c κs = (c .places-of .ensures, omega (arith, c .places-of .ensures, places-most (c .before .before .before .args .number)))
+behind-requires : tie.Need-behind-requires
+behind-requires c κs =
+    let s = c .before .before .before .before .before in
+    let g = s .args in
+    let short : length (decimal (g .number)) ≤ 5 = decimal-most 4 (g .number) (search needs) in
+    within (g .buf .now) (decimal (g .number)) (g .at) (c .before .before .write-decimal .result) (omega (arith, short)) (search needs) (c .before .before .write-decimal .ensures .0)
 
 same-length : tie.Need-same-length
 same-length c = search needs
 
 returns : tie.Need-returns
-returns c = search needs
+returns c =
+    let s = c .before .before .before .before .before .before in
+    let g = s .args in
+    let short : length (decimal (g .number)) ≤ 5 = decimal-most 4 (g .number) (search needs) in
+    wrote 5 (c .behind .result) (omega (arith, short)) short (c .before .before .before .write-decimal .ensures .0) (c .before .before .before .write-decimal .ensures .1) (c .behind .ensures)
 
 pub put-number-spec : {M : Type 1} → statement M
-put-number-spec = tie.close (tie.spec places-of-requires put-places-requires same-length returns)
+put-number-spec = tie.close (tie.spec write-decimal-requires behind-requires same-length returns)

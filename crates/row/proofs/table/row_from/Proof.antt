@@ -5,14 +5,14 @@ use borrow.Author.Needs.{needs}
 use Rattle.row.proofs.table.row_from.Statement.{statement}
 use Rattle.row.proofs.table.row_from.Tie as tie
 
-array-read-t5 : tie.Need-array-read-t5
-array-read-t5 c = search needs
+array-read-t6 : tie.Need-array-read-t6
+array-read-t6 c = search needs
 
-array-read-t8 : tie.Need-array-read-t8
-array-read-t8 c = search needs
+array-read-t9 : tie.Need-array-read-t9
+array-read-t9 c = search needs
 
-array-read-t11 : tie.Need-array-read-t11
-array-read-t11 c = search needs
+array-read-t12 : tie.Need-array-read-t12
+array-read-t12 c = search needs
 
 array-read-codes-if : tie.Need-array-read-codes-if
 array-read-codes-if c = search needs
@@ -56,34 +56,35 @@ array-read-codes-if-10 c = search needs
 codes-if-requires-4 : tie.Need-codes-if-requires-4
 codes-if-requires-4 c κs = search needs
 
-array-read-t50 : tie.Need-array-read-t50
-array-read-t50 c = search needs
+array-read-t51 : tie.Need-array-read-t51
+array-read-t51 c = search needs
 
-array-read-t54 : tie.Need-array-read-t54
-array-read-t54 c = search needs
+array-read-t55 : tie.Need-array-read-t55
+array-read-t55 c = search needs
 
-array-read-t58 : tie.Need-array-read-t58
-array-read-t58 c = search needs
+array-read-t59 : tie.Need-array-read-t59
+array-read-t59 c = search needs
 
-array-read-t62 : tie.Need-array-read-t62
-array-read-t62 c = search needs
+array-read-t63 : tie.Need-array-read-t63
+array-read-t63 c = search needs
 
-array-read-t66 : tie.Need-array-read-t66
-array-read-t66 c = search needs
+array-read-t67 : tie.Need-array-read-t67
+array-read-t67 c = search needs
 
-array-read-t70 : tie.Need-array-read-t70
-array-read-t70 c = search needs
+array-read-t71 : tie.Need-array-read-t71
+array-read-t71 c = search needs
 
-array-read-t74 : tie.Need-array-read-t74
-array-read-t74 c = search needs
+array-read-t75 : tie.Need-array-read-t75
+array-read-t75 c = search needs
 
-array-read-t78 : tie.Need-array-read-t78
-array-read-t78 c = search needs
+array-read-t79 : tie.Need-array-read-t79
+array-read-t79 c = search needs
 
 returns : tie.Need-returns
 returns c =
     let n = c .before .before .before .before .args .t1 in
     λ i. record {
+      place = c .before .before .before .before .args .place;
       profile = getD n 0 0;
       code = getD n 1 0;
       zones = getD n 2 0;
@@ -105,9 +106,9 @@ pub row-from-spec : {M : Type 1} → statement M
 row-from-spec =
     tie.close
     (tie.spec
-    array-read-t5
-    array-read-t8
-    array-read-t11
+    array-read-t6
+    array-read-t9
+    array-read-t12
     array-read-codes-if
     array-read-codes-if-2
     array-read-codes-if-3
@@ -122,12 +123,12 @@ row-from-spec =
     array-read-codes-if-9
     array-read-codes-if-10
     codes-if-requires-4
-    array-read-t50
-    array-read-t54
-    array-read-t58
-    array-read-t62
-    array-read-t66
-    array-read-t70
-    array-read-t74
-    array-read-t78
+    array-read-t51
+    array-read-t55
+    array-read-t59
+    array-read-t63
+    array-read-t67
+    array-read-t71
+    array-read-t75
+    array-read-t79
     returns)

@@ -1,6 +1,6 @@
--- `signing::plain::cell_by` meets its contract.
+-- `signing::by_letter::cell_by` meets its contract.
 use mathlib.Core.Path.{sym, ap, _∙_}
-use Rattle.signing.specs.Capture.{captureFed}
+use Rattle.tracker.specs.Capture.{captureFed}
 use Rattle.tracker.specs.declared.tracker.Tracker.{Tracker}
 use Rattle.signing.proofs.Plains.{cell-fed, cell-refused}
 use borrow.Author.Needs.{needs}

@@ -1,4 +1,4 @@
--- `signing::plain::sign_file_by` meets its contract.
+-- `signing::by_letter::sign_file_by` meets its contract.
 use mathlib.Core.Path.{sym, ap, _∙_}
 use Rattle.sheet.specs.Sheet.{linesOf}
 use Rattle.sheetfile.specs.declared.file.FileRead.{FileRead}

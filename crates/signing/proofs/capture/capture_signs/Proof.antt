@@ -1,7 +1,7 @@
 -- `signing::capture::capture_signs` meets its contract.
 use mathlib.Core.Path.{sym, ap, _∙_}
 use Rattle.sheet.specs.Sheet.{linesOf}
-use Rattle.signing.specs.Capture.{captureFed}
+use Rattle.tracker.specs.Capture.{captureFed}
 use Rattle.tracker.specs.declared.tracker.Tracker.{Tracker}
 use Rattle.signing.proofs.CaptureSigns.{signs-fed, signs-refused}
 use borrow.Author.Needs.{needs}

@@ -1,39 +1,52 @@
 -- `tracker::feed::with_status` meets its contract.
 use mathlib.Core.Path.{sym, _∙_}
-use Rattle.tracker.proofs.Cells.{within}
+use native.Mathlib.Omega.{arith}
 use borrow.Author.Needs.{needs}
+use Rattle.tracker.proofs.Cells.{stands, within}
 use Rattle.tracker.proofs.feed.with_status.Statement.{statement}
 use Rattle.tracker.proofs.feed.with_status.Tie as tie
 
-cell-of-requires : tie.Need-cell-of-requires
-cell-of-requires c κs = search needs
+judge-row-requires : tie.Need-judge-row-requires
+judge-row-requires c κs = search needs
 
-enum-known-cell : tie.Need-enum-known-cell
-enum-known-cell c = search needs
+enum-known-judged : tie.Need-enum-known-judged
+enum-known-judged c = search needs
 
 enum-told : tie.Need-enum-told
 enum-told c = search needs
 
 returns : tie.Need-returns
-returns c = rw (← c .before .before .cell-of .ensures, c .enum-told .given .1)
-
-element-write-next : tie.Need-element-write-next
-element-write-next c = let told = c .before .cell .given in within _ _ _ (told .0 .0) (sym (c .before .before .before .cell-of .ensures) ∙ told .1)
-
-element-write-next-2 : tie.Need-element-write-next-2
-element-write-next-2 c = let told = c .before .cell .given in within _ _ _ (told .0 .0) (sym (c .before .before .before .cell-of .ensures) ∙ told .1)
+returns c = rw (← c .before .before .judge-row .ensures, c .enum-told .given .1)
 
 returns-2 : tie.Need-returns-2
-returns-2 c = rw (← c .before .before .before .cell-of .ensures, c .before .cell .given .1)
+returns-2 c = rw (← c .before .before .before .before .judge-row .ensures, c .before .before .judged .given .1, c .if1 .taken)
+
+cell-of-requires : tie.Need-cell-of-requires
+cell-of-requires c κs = let l = stands _ _ _ (c .before .before .judged .given .0 .0) (sym (c .before .before .before .before .judge-row .ensures) ∙ c .before .before .judged .given .1) in (l .place, l .low, l .high)
+
+element-write-next : tie.Need-element-write-next
+element-write-next c =
+    let h = within _ _ _ (c .before .before .before .judged .given .0 .0) (sym (c .before .before .before .before .before .judge-row .ensures) ∙ c .before .before .before .judged .given .1) in
+    omega (arith, h, c .cell-of .ensures)
+
+element-write-next-2 : tie.Need-element-write-next-2
+element-write-next-2 c =
+    let h = within _ _ _ (c .before .before .before .judged .given .0 .0) (sym (c .before .before .before .before .before .judge-row .ensures) ∙ c .before .before .before .judged .given .1) in
+    omega (arith, h, c .cell-of .ensures)
+
+returns-3 : tie.Need-returns-3
+returns-3 c = rw (← c .before .before .before .before .before .judge-row .ensures, c .before .before .before .judged .given .1, c .before .if1 .left, c .cell-of .ensures)
 
 pub with-status-spec : {M : Type 1} → statement M
 with-status-spec =
     tie.close
     (tie.spec
-    cell-of-requires
-    enum-known-cell
+    judge-row-requires
+    enum-known-judged
     enum-told
     returns
+    returns-2
+    cell-of-requires
     element-write-next
     element-write-next-2
-    returns-2)
+    returns-3)

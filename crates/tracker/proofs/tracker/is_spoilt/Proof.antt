@@ -1,27 +1,22 @@
--- `tracker::kept::is_spoilt` meets its contract.
+-- `tracker::tracker::is_spoilt` meets its contract.
+use mathlib.Core.Bool.{Bool, not, _&&_}
+use mathlib.Core.Path.{sym, _∙_, ap}
+use borrow.Author.Tests.{not-true, not-false}
+use Rattle.sheet.specs.Line.{isSheetValue}
 use borrow.Author.Needs.{needs}
 use Rattle.tracker.proofs.tracker.is_spoilt.Statement.{statement}
 use Rattle.tracker.proofs.tracker.is_spoilt.Tie as tie
 
-find-row-requires : tie.Need-find-row-requires
-find-row-requires c κs = search needs
-
-enum-known-row : tie.Need-enum-known-row
-enum-known-row c = search needs
-
-is-spoilt-in-requires : tie.Need-is-spoilt-in-requires
-is-spoilt-in-requires c κs = search needs
-
-enum-told : tie.Need-enum-told
-enum-told c = search needs
-
 returns : tie.Need-returns
-returns c = rw (← c .before .before .before .before .find-row .ensures, c .before .before .row .given .1, c .is-spoilt-in .ensures)
+returns c = rw (not-true (c .before .before .args .row .sheet) (c .if1 .taken))
+
+is-sheet-value-requires : tie.Need-is-sheet-value-requires
+is-sheet-value-requires c κs = search needs
 
 returns-2 : tie.Need-returns-2
-returns-2 c = rw (← c .before .before .find-row .ensures, c .enum-told .given .1)
+returns-2 c =
+    let g = c .before .before .before .args in
+    ap not (c .is-sheet-value .ensures) ∙ sym (ap (λ (t : Bool). t && not (isSheetValue (g .row) (g .value))) (not-false (g .row .sheet) (c .before .if1 .left)))
 
 pub is-spoilt-spec : {M : Type 1} → statement M
-is-spoilt-spec =
-    tie.close
-    (tie.spec find-row-requires enum-known-row is-spoilt-in-requires enum-told returns returns-2)
+is-spoilt-spec = tie.close (tie.spec returns is-sheet-value-requires returns-2)

@@ -1,4 +1,4 @@
--- `tracker::kept::new_tracker` meets its contract.
+-- `tracker::tracker::new_tracker` meets its contract.
 use borrow.Author.Needs.{needs}
 use Rattle.tracker.proofs.tracker.new_tracker.Statement.{statement}
 use Rattle.tracker.proofs.tracker.new_tracker.Tie as tie

@@ -1,54 +1,34 @@
--- A digit by its range.
-use borrow.Author.Tests.{eq-eqb, ne-eqb, le-leb, lt-leb, lt-ltb, le-ltb}
+-- A hex digit's value, or 16.
+use mathlib.Core.Path.{sym, ap, _∙_}
+use Prim.Native.Nat.{ℕ}
 use borrow.Author.Needs.{needs}
-use Rattle.words.specs.Arguments.{digitOf}
+use Rattle.characters.specs.Hex.{hexValue}
+use Rattle.words.specs.Arguments.{digitIn}
 use Rattle.words.proofs.arguments.digit.Statement.{statement}
 use Rattle.words.proofs.arguments.digit.Tie as tie
 
+capital-requires : tie.Need-capital-requires
+capital-requires c κs = search needs
+
+hex-value-requires : tie.Need-hex-value-requires
+hex-value-requires c κs = search needs
+
+enum-known-value : tie.Need-enum-known-value
+enum-known-value c = search needs
+
+enum-told : tie.Need-enum-told
+enum-told c = search needs
+
 returns : tie.Need-returns
-unfolding digitOf
-returns c = search (needs, eq-eqb, ne-eqb, le-leb, lt-leb, lt-ltb, le-ltb)
+returns c =
+    sym (ap digitIn (c .before .value .given .1))
+    ∙ ap digitIn (c .before .before .before .hex-value .ensures ∙ ap hexValue (c .before .before .before .before .capital .ensures))
 
 returns-2 : tie.Need-returns-2
-unfolding digitOf
-returns-2 c = search (needs, eq-eqb, ne-eqb, le-leb, lt-leb, lt-ltb, le-ltb)
-
-returns-3 : tie.Need-returns-3
-unfolding digitOf
-returns-3 c = search (needs, eq-eqb, ne-eqb, le-leb, lt-leb, lt-ltb, le-ltb)
-
-add-result : tie.Need-add-result
-add-result c = search needs
-
-returns-4 : tie.Need-returns-4
-unfolding digitOf
-returns-4 c = search (needs, eq-eqb, ne-eqb, le-leb, lt-leb, lt-ltb, le-ltb)
-
-returns-5 : tie.Need-returns-5
-unfolding digitOf
-returns-5 c = search (needs, eq-eqb, ne-eqb, le-leb, lt-leb, lt-ltb, le-ltb)
-
-add-result-2 : tie.Need-add-result-2
-add-result-2 c = search needs
-
-returns-6 : tie.Need-returns-6
-unfolding digitOf
-returns-6 c = search (needs, eq-eqb, ne-eqb, le-leb, lt-leb, lt-ltb, le-ltb)
-
-returns-7 : tie.Need-returns-7
-unfolding digitOf
-returns-7 c = search (needs, eq-eqb, ne-eqb, le-leb, lt-leb, lt-ltb, le-ltb)
+returns-2 c =
+    sym (ap digitIn (c .enum-told .given .1)) ∙ ap digitIn (c .before .before .hex-value .ensures ∙ ap hexValue (c .before .before .before .capital .ensures))
 
 pub digit-spec : {M : Type 1} → statement M
 digit-spec =
     tie.close
-    (tie.spec
-    returns
-    returns-2
-    returns-3
-    add-result
-    returns-4
-    returns-5
-    add-result-2
-    returns-6
-    returns-7)
+    (tie.spec capital-requires hex-value-requires enum-known-value enum-told returns returns-2)
