@@ -19,7 +19,7 @@ use Rattle.row.specs.declared.profile.Profile.{Profile}
 use Rattle.row.specs.declared.table.Row.{Row}
 use Rattle.row.specs.declared.table.Found.{Found}
 use Rattle.row.specs.declared.table.Found.the-variants as found
-use Rattle.judging.specs.Judge.{hasLength, hasValue, profileZone, rowZone, wrongLength, wrongValue, byRow, rowRules, judgeRules, judgedBy, rowJudged, judgedOf}
+use Rattle.judging.specs.Judge.{hasLength, hasValue, wrongProfileZone, wrongRowZone, wrongLength, wrongValue, byRow, rowRules, judgeRules, judgedBy, rowJudged, judgedOf}
 use Rattle.judging.specs.declared.judge.Judged.the-variants.{Legal, Refused}
 
 legal-differs : {X : Type 0} (row : Row) (n : ℕ) → Legal row ≡ Refused n → X
@@ -66,7 +66,7 @@ module _ (profile : Profile) (zone command : ℕ) where
       half r false p q z g = let same = same-legal r row g in record { there = q ∙ ap found.Row same; within = p; reaches = rw (← same) z }
 
       go : (t : Bool) (f : Found) → outside ≡ t → rowOf profile command ≡ f
-          → cond t (Refused 1) (ruled (byRow f (λ r. rowZone r zone ∷ [])) Refused (judgedBy f)) ≡ Legal row → Lies row
+          → cond t (Refused 1) (ruled (byRow f (λ r. wrongRowZone r zone ∷ [])) Refused (judgedBy f)) ≡ Legal row → Lies row
       go true f p q g = legal-differs row 1 (sym g)
       go false found.NoRow p q g = legal-differs row 2 (sym g)
       go false (found.Row r) p q g = half r (ltb (r .zones) zone) p q refl g
@@ -80,8 +80,8 @@ module _ (profile : Profile) (zone command : ℕ) where
       half r true g = ap refuse (same-number 1 n g)
       half r false g = legal-differs r n g
 
-      go : (t : Bool) (f : Found) → cond t (Refused 1) (ruled (byRow f (λ r. rowZone r zone ∷ [])) Refused (judgedBy f)) ≡ Refused n
-          → cond t (refuse 1) (ruled (byRow f (λ r. rowZone r zone ∷ more r)) refuse accepted) ≡ refuse n
+      go : (t : Bool) (f : Found) → cond t (Refused 1) (ruled (byRow f (λ r. wrongRowZone r zone ∷ [])) Refused (judgedBy f)) ≡ Refused n
+          → cond t (refuse 1) (ruled (byRow f (λ r. wrongRowZone r zone ∷ more r)) refuse accepted) ≡ refuse n
       go true f g = ap refuse (same-number 1 n g)
       go false found.NoRow g = ap refuse (same-number 2 n g)
       go false (found.Row r) g = half r (ltb (r .zones) zone) g
@@ -95,11 +95,11 @@ module _ (profile : Profile) (zone command : ℕ) where
   pub pass-row : (more : Row → List Rule) → refuses (rowRules profile zone command more) ≡ false → RowPasses more
   pass-row more e = go (rowOf profile command) refl e
     where
-      go : (f : Found) → rowOf profile command ≡ f → refuses (profileZone profile zone ∷ byRow f (λ r. rowZone r zone ∷ more r)) ≡ false → RowPasses more
-      go found.NoRow q g = let two = pass-first (profileZone profile zone) (rule 2 true ∷ []) g .1 in let z : _≡_ {A = ℕ} 0 1 = cc in absurd (omega arith)
+      go : (f : Found) → rowOf profile command ≡ f → refuses (wrongProfileZone profile zone ∷ byRow f (λ r. wrongRowZone r zone ∷ more r)) ≡ false → RowPasses more
+      go found.NoRow q g = let two = pass-first (wrongProfileZone profile zone) (rule 2 true ∷ []) g .1 in let z : _≡_ {A = ℕ} 0 1 = cc in absurd (omega arith)
       go (found.Row r) q g =
-          let one = pass-first (profileZone profile zone) (rowZone r zone ∷ more r) g in
-          let two = pass-first (rowZone r zone) (more r) (one .1) in
+          let one = pass-first (wrongProfileZone profile zone) (wrongRowZone r zone ∷ more r) g in
+          let two = pass-first (wrongRowZone r zone) (more r) (one .1) in
           record { row = r; lies = record { there = q; within = one .0; reaches = two .0 }; rest = two .1 }
 
 -- what is judged legal: its row, and that length and value are the row's
@@ -156,7 +156,7 @@ pub judge-numbers : (P : ℕ → Type 0) → P 1 → P 2 → P 3 → P 4 → (pr
     → Each (λ (r : Rule). P (r .number)) (judgeRules profile dir zone command body)
 judge-numbers P one two three four profile dir zone command body = go (rowOf profile command)
   where
-    go : (f : Found) → Each (λ (r : Rule). P (r .number)) (profileZone profile zone ∷ byRow f (λ row. rowZone row zone ∷ wrongLength dir row (length body) ∷ wrongValue dir row body ∷ []))
+    go : (f : Found) → Each (λ (r : Rule). P (r .number)) (wrongProfileZone profile zone ∷ byRow f (λ row. wrongRowZone row zone ∷ wrongLength dir row (length body) ∷ wrongValue dir row body ∷ []))
     go found.NoRow = (one, (two, tt))
     go (found.Row row) = (one, (one, (three, (four, tt))))
 

@@ -1,2 +1,2 @@
--- Proofs about the lines of the refusals.
+-- Proofs about the rules of the refusals.
 pub mod Judges

@@ -39,12 +39,12 @@ abbrev pub isPair : Row → ℕ → ℕ → Bool
 isPair row input state = row .pair && (leb state 1 && isAnswer row input)
 
 -- "Data is one byte everywhere, except S 0F, whose setting command and answer have two."
-abbrev pub oneByte : Direction → Row → Bool
-oneByte Command row = true
-oneByte Answer row = not (row .pair)
+abbrev pub hasOneByte : Direction → Row → Bool
+hasOneByte Command row = true
+hasOneByte Answer row = not (row .pair)
 
 abbrev pub hasLength : Direction → Row → ℕ → Bool
-hasLength dir row n = cond (eqb n 2) (row .pair) (eqb n 1 && oneByte dir row)
+hasLength dir row n = cond (eqb n 2) (row .pair) (eqb n 1 && hasOneByte dir row)
 
 -- one byte of data
 abbrev pub hasByte : Direction → Row → ℕ → Bool
@@ -55,12 +55,16 @@ hasByte Answer row b = isAnswer row b
 abbrev pub hasValue : Direction → Row → List ℕ → Bool
 hasValue dir row body = cond (eqb (length body) 2) (isPair row (getD body 0 0) (getD body 1 0)) (hasByte dir row (getD body 0 0))
 
--- 1: "zone not of the profile, or not 1 in a zone-1 row"
-abbrev pub profileZone : Profile → ℕ → Rule
-profileZone profile zone = rule 1 (eqb zone 0 || ltb (zonesOf profile) zone)
+-- data that the row and direction have
+abbrev pub hasData : Direction → Row → List ℕ → Bool
+hasData dir row body = hasLength dir row (length body) && hasValue dir row body
 
-abbrev pub rowZone : Row → ℕ → Rule
-rowZone row zone = rule 1 (ltb (row .zones) zone)
+-- 1: "zone not of the profile, or not 1 in a zone-1 row"
+abbrev pub wrongProfileZone : Profile → ℕ → Rule
+wrongProfileZone profile zone = rule 1 (eqb zone 0 || ltb (zonesOf profile) zone)
+
+abbrev pub wrongRowZone : Row → ℕ → Rule
+wrongRowZone row zone = rule 1 (ltb (row .zones) zone)
 
 -- 3: "data length that the row and direction lack"; 4: "data value that the row and direction lack"
 abbrev pub wrongLength : Direction → Row → ℕ → Rule
@@ -76,7 +80,7 @@ byRow (found.Row row) rules = rules row
 
 -- "Commands: zone of the profile, row, zone of the row", and then more rules of the row
 abbrev pub rowRules : Profile → ℕ → ℕ → (Row → List Rule) → List Rule
-rowRules profile zone command more = profileZone profile zone ∷ byRow (rowOf profile command) (λ row. rowZone row zone ∷ more row)
+rowRules profile zone command more = wrongProfileZone profile zone ∷ byRow (rowOf profile command) (λ row. wrongRowZone row zone ∷ more row)
 
 -- "3, 4"
 abbrev pub judgeRules : Profile → Direction → ℕ → ℕ → List ℕ → List Rule

@@ -1,2 +1,2 @@
--- What must be believed: the lines of the refusals 1 to 4.
+-- What must be believed: the rules of the refusals 1 to 4.
 pub mod Judge

@@ -6,7 +6,7 @@ use row::table::Row;
 ghost use mathlib.Core.Path.{_≡_};
 ghost use Prim.Native.Nat.{_<_};
 ghost use lib.ListN.{length};
-ghost use Rattle.judging.specs.Judge.{within, isSetting, isAnswer, isWord, isPair, hasByte, hasLength, hasValue, rowJudged, judgedOf};
+ghost use Rattle.judging.specs.Judge.{within, isSetting, isAnswer, isWord, isPair, hasByte, hasLength, hasValue, hasData, rowJudged, judgedOf};
 ghost use Rattle.frame.specs.declared.direction.Direction.the-variants as direction;
 ghost use mathlib.Core.Bool.{_||_};
 
@@ -51,6 +51,16 @@ pub fn judge_row(profile: Profile, zone: u8, command: u8) -> Judged
         return Judged::Refused(1);
     }
     Judged::Legal(row)
+}
+
+// Whether a row has these data in a direction.
+pub fn data_fit(direction: Direction, row: Row, body: &[u8]) -> bool
+    ensures { λ r. ⌜ r ≡ hasData direction row (now (body .entry)) ⌝ }
+{
+    if !length_fits(direction, row, body.len()) {
+        return false;
+    }
+    value_fits(direction, row, body)
 }
 
 // Whether a row has data of this length in a direction.

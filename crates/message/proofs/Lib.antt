@@ -3,6 +3,7 @@ pub mod Writes
 pub mod Tests
 pub mod Tidy
 mod Codes
+pub mod Fits
 mod Says
 mod Written
 pub mod Forms

@@ -15,7 +15,7 @@ use Rattle.row.specs.Table.{rowOf}
 use Rattle.row.specs.Signed.{numberOf, codeOf, plainCodeOf}
 use Rattle.row.specs.declared.profile.Profile.{Profile}
 use Rattle.row.specs.declared.table.Row.{Row}
-use Rattle.judging.specs.Judge.{isSetting, isAnswer, isWord, hasLength, rowJudged, judgedOf}
+use Rattle.judging.specs.Judge.{isSetting, isAnswer, isWord, hasLength, hasData, rowJudged, judgedOf}
 use Rattle.message.specs.Message.{readRules, readOf, frameRead, deniedIn}
 use Rattle.message.specs.Write.{writeRules, messageFrame}
 use Rattle.message.specs.declared.read.Message.{Message}
@@ -80,3 +80,6 @@ is-word-one row byte = one (isWord row byte)
 
 pub length-fits-one : (direction : Direction) (row : Row) (length : ℕ) → OneAnswer (λ x. x ≡ hasLength direction row length)
 length-fits-one direction row length = one (hasLength direction row length)
+
+pub data-fit-one : (direction : Direction) (row : Row) (body : List ℕ) → OneAnswer (λ x. x ≡ hasData direction row body)
+data-fit-one direction row body = one (hasData direction row body)

@@ -1,4 +1,4 @@
--- Legal data say a form of the row, and that form's data are these.
+-- Legal data say a form that the row has what it takes for, and that form's data are these.
 use mathlib.Core.Path.{_≡_, refl, sym, _∙_}
 use mathlib.Core.Bool.{true, false, cond, _&&_, _||_}
 use mathlib.Core.List.{List, [], _∷_}
@@ -12,7 +12,8 @@ use Rattle.frame.specs.declared.direction.Direction.the-variants.{Command, Answ
 use Rattle.frame.proofs.Cases.{cases}
 use Rattle.row.specs.declared.table.Row.{Row}
 use Rattle.judging.specs.Judge.{isAnswer, isWord, hasLength, hasByte}
-use Rattle.message.specs.Content.{wordOf, isOff, numberIn, valueContent, byteContent, contentOf, encodedOf, encodedData, valueByte, isForm}
+use Rattle.message.specs.Content.{wordOf, isOff, numberIn, valueContent, byteContent, contentOf, encodedOf, encodedData}
+use Rattle.message.proofs.Fits.{valueByte, fits}
 use Rattle.message.specs.FormPromise.{LegalData}
 use Rattle.message.specs.declared.content.Content.{Content}
 use Rattle.message.specs.declared.content.Content.the-variants.{Up, Down, On, Off, LevellerOff, Number}
@@ -20,9 +21,9 @@ use Rattle.message.proofs.Tests.{both, former, by-value}
 use Rattle.message.proofs.Tidy.{Tidy}
 use Rattle.message.proofs.Codes.{number-coded}
 
--- what is said is a form of the row, and `body` its data
+-- the row has what it takes for what is said, and `body` are its data
 abbrev pub Says : Direction → Row → List ℕ → Content → Type 0
-Says dir row body content = (isForm dir row content ≡ true) × (encodedData (encodedOf row content) ≡ body)
+Says dir row body content = (fits dir row content ≡ true) × (encodedData (encodedOf row content) ≡ body)
 
 state-bit : (state : ℕ) → leb state 1 ≡ true → cond (eqb state 1) 1 0 ≡ state
 state-bit state e = cases (λ (n : ℕ). n ≡ state) (eqb state 1) (λ f. omega (arith, eqb-true)) (λ f. omega (arith, leb-true, eqb-false))
@@ -37,7 +38,6 @@ module _ (row : Row) where
   word-steps b switched stepped f g e = cases (Says Command row (b ∷ [])) (row .switch) f (λ s. g (former _ _ e s))
 
   word-says : (b : ℕ) → Word b
-  unfolding isForm
   word-says b =
       by-value Word b 0xF0 (λ e. (e, refl))
       (λ f0. by-value Word b 0xF1 (word-steps 0xF1 On Up (λ e. (e, refl)) (λ e. (e, refl)))
@@ -46,7 +46,6 @@ module _ (row : Row) where
       (λ t e. let z : false ≡ true = rw (f0, f1, f2, t) at e in (cc, cc)))))
 
   value-says : (dir : Direction) → Tidy dir row → (b : ℕ) → valueByte dir row b ≡ true → Says dir row (b ∷ []) (valueContent row b)
-  unfolding isForm
   value-says dir tidy b v = cases (Says dir row (b ∷ [])) (isOff row b) off number
     where
       off : isOff row b ≡ true → Says dir row (b ∷ []) LevellerOff
@@ -68,7 +67,7 @@ module _ (row : Row) where
   no-longer dir n = rw (ne-eqb (suc (suc (suc n))) 2 (λ e. omega arith), ne-eqb (suc (suc (suc n))) 1 (λ e. omega arith))
 
   pub data-says : (dir : Direction) → Tidy dir row → (body : List ℕ) → LegalData dir row body → Says dir row body (contentOf dir row body)
-  unfolding contentOf isForm
+  unfolding contentOf
   data-says dir tidy [] legal = let none : false ≡ true = legal .long in (cc, cc)
   data-says dir tidy (b ∷ []) legal = byte-says dir tidy b (legal .value)
   data-says dir tidy (b ∷ c ∷ []) legal =

@@ -17,7 +17,7 @@ use Rattle.row.specs.declared.table.Found.the-variants as found
 use Rattle.row.specs.declared.table.Row.{Row}
 use Rattle.row.proofs.Rows.{each-found}
 use Rattle.judging.specs.Judge.{within, isWord}
-use Rattle.message.specs.Content.{valueByte, inCommand}
+use Rattle.message.proofs.Fits.{valueByte, inCommand}
 use Rattle.message.proofs.Tests.{both, upto, upto-at}
 
 pub record Tidy (dir : Direction) (row : Row) : Type 0 where
@@ -25,8 +25,6 @@ pub record Tidy (dir : Direction) (row : Row) : Type 0 where
   pub byte : (b : ℕ) → valueByte dir row b ≡ true → b < 256
   pub no-word : (b : ℕ) → valueByte dir row b ≡ true → inCommand dir (isWord row b) ≡ false
   pub no-minus-zero : (b : ℕ) → valueByte dir row b ≡ true → row .signed ≡ true → b ≡ 0x80 → ⊥
-  -- F1 and F2 do not mean two things
-  pub no-switch : row .steps ≡ true → row .switch ≡ false
 
 -- the same as tests; codes of a table of bytes are bytes
 abbrev pub areBytes : Codes → Codes → Bool
@@ -40,7 +38,7 @@ abbrev clean : Direction → Row → ℕ → Bool
 clean dir row b = cond (valueByte dir row b) (not (inCommand dir (isWord row b)) && not (row .signed && eqb b 0x80)) true
 
 abbrev tidy : Direction → Row → Bool
-tidy dir row = upto 256 (clean dir row) && (byteCodes dir row && not (row .steps && row .switch))
+tidy dir row = upto 256 (clean dir row) && byteCodes dir row
 
 within-byte : (codes : Codes) (b : ℕ) → leb (codes .high) 255 ≡ true → within codes b ≡ true → b < 256
 within-byte codes b e f = let (low, high) = both (leb (codes .low) b) (leb b (codes .high)) f in omega (arith, leb-true)
@@ -57,13 +55,10 @@ codes-byte Command row = code-byte (row .settings) (row .settings2)
 codes-byte Answer row = code-byte (row .answers) (row .answers2)
 
 tidy-says : (dir : Direction) (row : Row) → tidy dir row ≡ true → Tidy dir row
-tidy-says dir row e = record { byte = byte; no-word = no-word; no-minus-zero = no-minus-zero; no-switch = no-switch }
+tidy-says dir row e = record { byte = byte; no-word = no-word; no-minus-zero = no-minus-zero }
   where
-    parts : (upto 256 (clean dir row) ≡ true) × (byteCodes dir row ≡ true) × (not (row .steps && row .switch) ≡ true)
-    parts =
-        let (all, rest) = both (upto 256 (clean dir row)) _ e in
-        let (codes, words) = both (byteCodes dir row) _ rest in
-        (all, codes, words)
+    parts : (upto 256 (clean dir row) ≡ true) × (byteCodes dir row ≡ true)
+    parts = both (upto 256 (clean dir row)) (byteCodes dir row) e
 
     byte : (b : ℕ) → valueByte dir row b ≡ true → b < 256
     byte = codes-byte dir row (parts .1)
@@ -76,9 +71,6 @@ tidy-says dir row e = record { byte = byte; no-word = no-word; no-minus-zero = n
 
     no-minus-zero : (b : ℕ) → valueByte dir row b ≡ true → row .signed ≡ true → b ≡ 0x80 → ⊥
     no-minus-zero b v s h = let z : _≡_ {A = ℕ} 0 1 = cc (cleaned b v .1, eq-eqb b 0x80 h) in omega arith
-
-    no-switch : row .steps ≡ true → row .switch ≡ false
-    no-switch s = not-true _ (rw s at (parts .2))
 
 -- what every row of the table passes, the row that is found passes
 abbrev pub every : (Row → Bool) → List Row → Bool

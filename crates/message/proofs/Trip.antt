@@ -39,9 +39,6 @@ use Rattle.message.specs.Numbers.{Paper, messagePaper}
 use Rattle.message.specs.MessageRefusalPromise.{codeOn}
 use Rattle.message.specs.MessagePromise.{ReadsAs, ReadsBack, MessagePromise}
 use Rattle.message.specs.declared.content.Content.{Content}
-use Rattle.message.specs.declared.content.Content.the-variants.{Request, Up, Down, On, Off, Toggle, LevellerOff, Number, Input}
-use Rattle.message.specs.declared.content.Encoded.{Encoded}
-use Rattle.message.specs.declared.content.Encoded.the-variants.{One, Two, NoCode}
 use Rattle.message.specs.declared.read.Denial.{Denial}
 use Rattle.message.specs.declared.read.Message.{Message}
 use Rattle.message.specs.declared.read.Message.the-variants as message
@@ -49,25 +46,8 @@ use Rattle.message.specs.declared.read.Reading.{Reading}
 use Rattle.message.specs.declared.read.Reading.the-variants as reading
 use Rattle.message.specs.declared.read.FrameReading.the-variants as frame
 use Rattle.message.proofs.Forms.{form-promise}
+use Rattle.message.proofs.Written.{data-size}
 use Rattle.message.proofs.Readings.{frame-some}
-
--- the data of a form are as many as its size
-form-size : (dir : Direction) (row : Row) (c : Content) → content.isForm dir row c ≡ true → length (content.encodedData (content.encodedOf row c)) ≡ content.sizeOf c
-unfolding content.isForm
-form-size dir row Request e = refl
-form-size dir row Up e = refl
-form-size dir row Down e = refl
-form-size dir row On e = refl
-form-size dir row Off e = refl
-form-size dir row Toggle e = refl
-form-size dir row LevellerOff e = refl
-form-size dir row (Number z) e = go (content.numberCode row z) e
-  where
-    go : (x : Encoded) → content.codeFits dir row x ≡ true → length (content.encodedData x) ≡ 1
-    go (One c) f = refl
-    go (Two b c) f = cc
-    go NoCode f = cc
-form-size dir row (Input input on) e = refl
 
 -- what is said in a row, and data that say it
 record Sayable (profile : Profile) (dir : Direction) (zone command : ℕ) (c : Content) (body : List ℕ) : Type 0 where
@@ -110,7 +90,7 @@ module _ (profile : Profile) (dir : Direction) (zone command : ℕ) where
       let c = content.contentOf dir (p .row) body in
       let there = p .lies .there in
       let r = form-promise .read profile command (p .row) dir body there (record { long = p .long; value = p .value }) in
-      let size : length body ≡ content.sizeOf c = ap length (sym (r .1)) ∙ form-size dir (p .row) c (r .0) in
+      let size : length body ≡ content.sizeOf c = ap length (sym (r .1)) ∙ data-size dir (p .row) c (rw (r .1) (p .long)) in
       let long : hasLength dir (p .row) (content.sizeOf c) ≡ true = rw (← size) (p .long) in
       let form = r .0 in (
         c,

@@ -20,7 +20,7 @@ use Rattle.refusals.proofs.Ruled.{refuses, firstNumber, ruled-append, was-accep
 use Rattle.row.specs.declared.profile.Profile.{Profile}
 use Rattle.row.specs.declared.table.Row.{Row}
 use Rattle.row.specs.declared.table.Found.{Found}
-use Rattle.judging.specs.Judge.{oneByte, hasLength, wrongLength, judgeRules, rowJudged}
+use Rattle.judging.specs.Judge.{hasOneByte, hasLength, wrongLength, judgeRules, rowJudged}
 use Rattle.message.specs.Content.{encodedOf, encodedData, sizeOf, isForm}
 use Rattle.message.specs.Message.{isDenial, wrongCode, readRules, readOf}
 use Rattle.message.specs.Write.{saidRules, saidIn, saidData}
@@ -91,7 +91,7 @@ module _ (profile : Profile) (dir : Direction) (buf : List ℕ) (at zone command
 pub length-few : (dir : Direction) (row : Row) (n : ℕ) → hasLength dir row n ≡ true → n ≤ 2
 length-few dir row n e = go (eqb n 2) (eqb n 1) refl refl e
   where
-    go : (t u : Bool) → eqb n 2 ≡ t → eqb n 1 ≡ u → cond t (row .pair) (u && oneByte dir row) ≡ true → n ≤ 2
+    go : (t u : Bool) → eqb n 2 ≡ t → eqb n 1 ≡ u → cond t (row .pair) (u && hasOneByte dir row) ≡ true → n ≤ 2
     go true u f g h = omega (arith, eqb-true n 2 f)
     go false true f g h = omega (arith, eqb-true n 1 g)
     go false false f g h = let z : _≡_ {A = ℕ} 0 1 = cc in absurd (omega arith)

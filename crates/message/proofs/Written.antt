@@ -1,91 +1,114 @@
 -- A form of the row has legal data, and they say it.
-use mathlib.Core.Path.{_≡_, refl, _∙_}
-use mathlib.Core.Bool.{Bool, true, false, cond, not, _&&_, _||_, or-true}
+use mathlib.Core.Path.{_≡_, refl, ap, _∙_}
+use mathlib.Core.Bool.{Bool, true, false, cond}
 use mathlib.Core.List.{List, [], _∷_}
-use Prim.Native.Nat.{ℕ}
+use Prim.Native.Nat.{ℕ, _≤_}
 use native.Mathlib.Omega.{arith}
-use borrow.Author.Tests.{not-true}
-use lib.Dec.{eqb, leb}
+use borrow.Author.Tests.{eqb-true}
+use lib.Dec.{eqb}
 use lib.IntN.{ℤ}
 use lib.ListN.{length}
 use Rattle.frame.specs.declared.direction.Direction.{Direction}
 use Rattle.frame.specs.declared.direction.Direction.the-variants.{Command, Answer}
+use Rattle.frame.proofs.Cases.{cases}
 use Rattle.row.specs.declared.signed.Coded.{Coded}
 use Rattle.row.specs.declared.signed.Coded.the-variants as coded
 use Rattle.row.specs.declared.table.Row.{Row}
-use Rattle.judging.specs.Judge.{isAnswer, isWord, hasLength, hasByte}
-use Rattle.message.specs.Content.{wordOf, isOff, valueContent, byteContent, contentOf, encodedOf, encodedCode, encodedData, sizeOf, valueByte, inCommand, codeFits, isForm}
+use Rattle.judging.specs.Judge.{isWord, hasLength, hasValue, hasData}
+use Rattle.message.specs.Content.{wordOf, isOff, numberIn, valueContent, byteContent, contentOf, encodedOf, encodedCode, encodedData, sizeOf, formNumber, isForm}
 use Rattle.message.specs.FormPromise.{LegalData}
 use Rattle.message.specs.declared.content.Content.{Content}
 use Rattle.message.specs.declared.content.Content.the-variants.{Request, Up, Down, On, Off, Toggle, LevellerOff, Number, Input}
 use Rattle.message.proofs.Tests.{both}
-use Rattle.message.proofs.Tidy.{Tidy}
 use Rattle.message.proofs.Codes.{codeBy, coded-number}
 
--- `body` is legal, `n` bytes, and says `content`
-abbrev pub Writes : Direction → Row → List ℕ → ℕ → Content → Type 0
-Writes dir row body n content = LegalData dir row body × (length body ≡ n) × (contentOf dir row body ≡ content)
+-- the forms that hold nothing, by their numbers
+formOf : ℕ → Content
+formOf n =
+    cond (eqb n 0) Request
+    (cond (eqb n 1) Up (cond (eqb n 2) Down (cond (eqb n 3) On (cond (eqb n 4) Off (cond (eqb n 5) Toggle LevellerOff)))))
 
--- a word of the row in commands, and a value that is none, are legal and say what they mean
-word-byte : (dir : Direction) (row : Row) (b : ℕ) → inCommand dir (isWord row b) ≡ true → (hasByte dir row b ≡ true) × (byteContent dir row b ≡ wordOf row b)
-word-byte Command row b e = (rw (e, or-true), rw e)
-word-byte Answer row b e = (cc, cc)
+bare : (c : Content) → formNumber c ≤ 6 → c ≡ formOf (formNumber c)
+unfolding formOf
+bare Request h = refl
+bare Up h = refl
+bare Down h = refl
+bare On h = refl
+bare Off h = refl
+bare Toggle h = refl
+bare LevellerOff h = refl
+bare (Number z) h = absurd (omega arith)
+bare (Input input on) h = absurd (omega arith)
 
-value-byte : (dir : Direction) (row : Row) (b : ℕ) → valueByte dir row b ≡ true → inCommand dir (isWord row b) ≡ false
-    → (hasByte dir row b ≡ true) × (byteContent dir row b ≡ valueContent row b)
-value-byte Command row b v f = (rw v, rw f)
-value-byte Answer row b v f = (v, refl)
+-- one byte that says a number says its own
+abbrev NoNumber : Content → Type 0
+NoNumber c = formNumber c ≡ 7 → ⊥
 
-in-command : (dir : Direction) (t : Bool) → inCommand dir t ≡ true → t ≡ true
-in-command Command t e = e
-in-command Answer t e = cc
+word-no-number : (row : Row) (b : ℕ) → NoNumber (wordOf row b)
+word-no-number row b =
+    cases NoNumber (eqb b 0xF0) (λ f e. omega arith)
+    (λ f. cases NoNumber (eqb b 0x02) (λ g e. omega arith)
+    (λ g. cases NoNumber (eqb b 0xF1) (λ h. cases NoNumber (row .switch) (λ s e. omega arith) (λ s e. omega arith))
+    (λ h. cases NoNumber (row .switch) (λ s e. omega arith) (λ s e. omega arith))))
 
-state-byte : (on : Bool) → (leb (cond on 1 0) 1 ≡ true) × (eqb (cond on 1 0) 1 ≡ on)
-state-byte true = (refl, refl)
-state-byte false = (refl, refl)
+module _ (row : Row) (b : ℕ) where
+  abbrev Its : Content → Type 0
+  Its c = formNumber c ≡ 7 → c ≡ Number (numberIn row b)
 
-module _ (dir : Direction) (row : Row) (tidy : Tidy dir row) where
-  writes-byte : (b : ℕ) (content : Content) → hasLength dir row 1 ≡ true → (hasByte dir row b ≡ true) × (byteContent dir row b ≡ content) → Writes dir row (b ∷ []) 1 content
-  unfolding contentOf
-  writes-byte b content long e = (record { long = long; value = e .0 }, refl, e .1)
+  value-number : Its (valueContent row b)
+  value-number = cases Its (isOff row b) (λ f e. absurd (omega arith)) (λ f e. refl)
 
-  writes-word : (b : ℕ) (content : Content) → hasLength dir row 1 ≡ true → inCommand dir (isWord row b) ≡ true → wordOf row b ≡ content → Writes dir row (b ∷ []) 1 content
-  writes-word b content long e g = let (legal, says) = word-byte dir row b e in writes-byte b content long (legal, says ∙ g)
+  byte-number : (dir : Direction) → Its (byteContent dir row b)
+  byte-number Command = cases Its (isWord row b) (λ f e. absurd (word-no-number row b e)) (λ f. value-number)
+  byte-number Answer = value-number
 
-  writes-value : (b : ℕ) (content : Content) → hasLength dir row 1 ≡ true → valueByte dir row b ≡ true → valueContent row b ≡ content → Writes dir row (b ∷ []) 1 content
-  writes-value b content long v g = let (legal, says) = value-byte dir row b v (tidy .no-word b v) in writes-byte b content long (legal, says ∙ g)
+state-byte : (on : Bool) → eqb (cond on 1 0) 1 ≡ on
+state-byte true = refl
+state-byte false = refl
 
-  -- F1 and F2 where the row steps, and where it switches
-  steps : inCommand dir (row .steps) ≡ true → (inCommand dir (row .steps || row .switch) ≡ true) × (row .switch ≡ false)
-  steps e = let s = in-command dir (row .steps) e in (cc, tidy .no-switch s)
+module _ (dir : Direction) (row : Row) where
+  -- data of a length that the row has are as many as the form's size
+  pub data-size : (c : Content) → hasLength dir row (length (encodedData (encodedOf row c))) ≡ true → length (encodedData (encodedOf row c)) ≡ sizeOf c
+  data-size Request e = refl
+  data-size Up e = refl
+  data-size Down e = refl
+  data-size On e = refl
+  data-size Off e = refl
+  data-size Toggle e = refl
+  data-size LevellerOff e = refl
+  data-size (Number z) e = go (codeBy (row .signed) z) e
+    where
+      go : (code : Coded) → hasLength dir row (length (encodedData (encodedCode code))) ≡ true → length (encodedData (encodedCode code)) ≡ 1
+      go (coded.Code c) f = refl
+      go coded.NoCode f = cc
+  data-size (Input input on) e = refl
 
-  switches : inCommand dir (row .switch) ≡ true → (inCommand dir (row .steps || row .switch) ≡ true) × (row .switch ≡ true)
-  switches e = let s = in-command dir (row .switch) e in (cc (or-true (row .steps)), s)
+  -- and what they say is this form, where it is of the same kind
+  abbrev says : Content → Content
+  says c = contentOf dir row (encodedData (encodedOf row c))
 
-  writes-number : (z : ℤ) (code : Coded) → codeBy (row .signed) z ≡ code → hasLength dir row 1 ≡ true → codeFits dir row (encodedCode code) ≡ true
-      → Writes dir row (encodedData (encodedCode code)) 1 (Number z)
-  writes-number z (coded.Code c) f long e =
-      let (v, n) = both (valueByte dir row c) (not (isOff row c)) e in
-      writes-value c (Number z) long v (rw (not-true (isOff row c) n, coded-number (row .signed) z c f))
-  writes-number z coded.NoCode f long e = let none : _≡_ {A = ℕ} 0 1 = cc in absurd (omega arith)
+  same-form : (c : Content) → hasLength dir row (length (encodedData (encodedOf row c))) ≡ true → formNumber (says c) ≡ formNumber c → says c ≡ c
+  unfolding contentOf formOf
+  same-form Request long e = bare (says Request) (omega arith) ∙ ap formOf e
+  same-form Up long e = bare (says Up) (omega arith) ∙ ap formOf e
+  same-form Down long e = bare (says Down) (omega arith) ∙ ap formOf e
+  same-form On long e = bare (says On) (omega arith) ∙ ap formOf e
+  same-form Off long e = bare (says Off) (omega arith) ∙ ap formOf e
+  same-form Toggle long e = bare (says Toggle) (omega arith) ∙ ap formOf e
+  same-form LevellerOff long e = bare (says LevellerOff) (omega arith) ∙ ap formOf e
+  same-form (Number z) long e = go (codeBy (row .signed) z) refl long e
+    where
+      go : (code : Coded) → codeBy (row .signed) z ≡ code → hasLength dir row (length (encodedData (encodedCode code))) ≡ true
+          → formNumber (contentOf dir row (encodedData (encodedCode code))) ≡ 7 → contentOf dir row (encodedData (encodedCode code)) ≡ Number z
+      go (coded.Code c) f g h = byte-number row c dir h ∙ ap Number (coded-number (row .signed) z c f)
+      go coded.NoCode f g h = cc
+  same-form (Input input on) long e = ap (Input input) (state-byte on)
 
-  writes-input : (input : ℕ) (on : Bool) → hasLength dir row 2 ≡ true → row .pair && isAnswer row input ≡ true
-      → Writes dir row (input ∷ cond on 1 0 ∷ []) 2 (Input input on)
-  unfolding contentOf
-  writes-input input on long e =
-      let (paired, listed) = both (row .pair) (isAnswer row input) e in
-      let (state, read) = state-byte on in
-      (record { long = long; value = cc }, refl, rw read)
-
-  pub writes : (content : Content) → isForm dir row content ≡ true → hasLength dir row (sizeOf content) ≡ true
-      → Writes dir row (encodedData (encodedOf row content)) (sizeOf content) content
+  pub writes : (content : Content) → isForm dir row content ≡ true
+      → LegalData dir row (encodedData (encodedOf row content)) × (length (encodedData (encodedOf row content)) ≡ sizeOf content) × (says content ≡ content)
   unfolding isForm
-  writes Request e long = writes-word 0xF0 Request long e refl
-  writes Up e long = let (word, s) = steps e in writes-word 0xF1 Up long word (rw s)
-  writes Down e long = let (word, s) = steps e in writes-word 0xF2 Down long word (rw s)
-  writes On e long = let (word, s) = switches e in writes-word 0xF1 On long word (rw s)
-  writes Off e long = let (word, s) = switches e in writes-word 0xF2 Off long word (rw s)
-  writes Toggle e long = writes-word 0x02 Toggle long e refl
-  writes LevellerOff e long = let (marked, v) = both (row .off) (valueByte dir row 0xFF) e in writes-value 0xFF LevellerOff long v (rw marked)
-  writes (Number z) e long = writes-number z (codeBy (row .signed) z) refl long e
-  writes (Input input on) e long = writes-input input on long e
+  writes content e =
+      let body = encodedData (encodedOf row content) in
+      let (legal, same) = both (hasData dir row body) (eqb (formNumber (says content)) (formNumber content)) e in
+      let (long, value) = both (hasLength dir row (length body)) (hasValue dir row body) legal in
+      (record { long = long; value = value }, data-size content long, same-form content long (eqb-true _ _ same))

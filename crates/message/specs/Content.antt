@@ -1,6 +1,6 @@
 -- Document 01, 'Commands of the two profiles': what legal data say in a row, and the data of what is said.
 use Prim.Native.Nat.{ℕ}
-use mathlib.Core.Bool.{Bool, false, cond, not, _&&_}
+use mathlib.Core.Bool.{Bool, cond, _&&_}
 use mathlib.Core.List.{List, [], _∷_}
 use lib.Dec.{eqb}
 use lib.IntN.{ℤ, pos}
@@ -11,7 +11,7 @@ use Rattle.row.specs.Signed.{numberOf, codeOf, plainCodeOf}
 use Rattle.row.specs.declared.signed.Coded.{Coded}
 use Rattle.row.specs.declared.signed.Coded.the-variants as coded
 use Rattle.row.specs.declared.table.Row.{Row}
-use Rattle.judging.specs.Judge.{isSetting, isAnswer, isWord}
+use Rattle.judging.specs.Judge.{isWord, hasData}
 use Rattle.message.specs.declared.content.Content.{Content}
 use Rattle.message.specs.declared.content.Content.the-variants.{Request, Up, Down, On, Off, Toggle, LevellerOff, Number, Input}
 use Rattle.message.specs.declared.content.Encoded.{Encoded}
@@ -81,31 +81,22 @@ sizeOf LevellerOff = 1
 sizeOf (Number z) = 1
 sizeOf (Input input on) = 2
 
--- the forms of a row in a direction, what it can say: the words that it lists, in commands alone; off and numbers by its codes
--- (as an answer of the pair row a number has the wrong length, which line 3 refuses before this is asked); an input of the row
-abbrev pub valueByte : Direction → Row → ℕ → Bool
-valueByte Command row b = isSetting row b
-valueByte Answer row b = isAnswer row b
+-- which form it is
+abbrev pub formNumber : Content → ℕ
+formNumber Request = 0
+formNumber Up = 1
+formNumber Down = 2
+formNumber On = 3
+formNumber Off = 4
+formNumber Toggle = 5
+formNumber LevellerOff = 6
+formNumber (Number z) = 7
+formNumber (Input input on) = 8
 
-abbrev pub inCommand : Direction → Bool → Bool
-inCommand Command t = t
-inCommand Answer t = false
+-- data that a row has in a direction, and that say this form there
+abbrev pub isSaid : Direction → Row → List ℕ → Content → Bool
+isSaid dir row body c = hasData dir row body && eqb (formNumber (contentOf dir row body)) (formNumber c)
 
-abbrev pub numberByte : Direction → Row → ℕ → Bool
-numberByte dir row c = valueByte dir row c && not (isOff row c)
-
-abbrev pub codeFits : Direction → Row → Encoded → Bool
-codeFits dir row (One c) = numberByte dir row c
-codeFits dir row (Two b c) = false
-codeFits dir row NoCode = false
-
+-- a form of a row in a direction, what it can say: its data say it
 unfoldable pub isForm : Direction → Row → Content → Bool
-isForm dir row Request = inCommand dir (row .request)
-isForm dir row Up = inCommand dir (row .steps)
-isForm dir row Down = inCommand dir (row .steps)
-isForm dir row On = inCommand dir (row .switch)
-isForm dir row Off = inCommand dir (row .switch)
-isForm dir row Toggle = inCommand dir (row .toggle)
-isForm dir row LevellerOff = row .off && valueByte dir row 0xFF
-isForm dir row (Number z) = codeFits dir row (numberCode row z)
-isForm dir row (Input input on) = row .pair && isAnswer row input
+isForm dir row c = isSaid dir row (encodedData (encodedOf row c)) c

@@ -1,6 +1,5 @@
 use frame::direction::Direction;
-use judging::judge::is_answer;
-use judging::judge::is_setting;
+use judging::judge::data_fit;
 use judging::judge::is_word;
 use row::signed::Coded;
 use row::table::Row;
@@ -8,9 +7,8 @@ ghost use mathlib.Core.Path.{_≡_};
 ghost use mathlib.Core.Bool.{cond};
 ghost use Prim.Native.Nat.{_<_};
 ghost use lib.ListN.{length};
-ghost use mathlib.Core.Bool.{_&&_};
-ghost use Rattle.judging.specs.Judge.{isAnswer, isWord};
-ghost use Rattle.message.specs.Content.{wordOf, isOff, valueContent, byteContent, contentOf, encodedCode, numberCode, encodedOf, sizeOf, valueByte, inCommand, numberByte, codeFits, isForm};
+ghost use Rattle.judging.specs.Judge.{isWord};
+ghost use Rattle.message.specs.Content.{wordOf, isOff, valueContent, byteContent, contentOf, encodedCode, numberCode, encodedOf, sizeOf, formNumber, isSaid, isForm};
 
 // What the data of a message say, in the words of document 01.
 pub enum Content {
@@ -181,75 +179,41 @@ pub(crate) fn size_of(content: Content) -> usize
     }
 }
 
-// Whether a row can say this in a direction.
+// Whether a row can say this in a direction: its data say it there.
 pub(crate) fn is_form(direction: Direction, row: Row, content: Content) -> bool
     ensures { λ r. ⌜ r ≡ isForm direction row content ⌝ }
 {
-    match content {
-        Content::Request => in_command(direction, row.request),
-        Content::Up => in_command(direction, row.steps),
-        Content::Down => in_command(direction, row.steps),
-        Content::On => in_command(direction, row.switch),
-        Content::Off => in_command(direction, row.switch),
-        Content::Toggle => in_command(direction, row.toggle),
-        Content::LevellerOff => off_fits(direction, row),
-        Content::Number(number) => code_fits(direction, row, number_code(row, number)),
-        Content::Input(input, _) => input_fits(row, input),
-    }
-}
-
-fn in_command(direction: Direction, has: bool) -> bool
-    ensures { λ r. ⌜ r ≡ inCommand direction has ⌝ }
-{
-    match direction {
-        Direction::Command => has,
-        Direction::Answer => false,
-    }
-}
-
-fn off_fits(direction: Direction, row: Row) -> bool
-    ensures { λ r. ⌜ r ≡ row .off && valueByte direction row 0xFF ⌝ }
-{
-    if !row.off {
-        return false;
-    }
-    value_byte(direction, row, 0xFF)
-}
-
-fn input_fits(row: Row, input: u8) -> bool
-    ensures { λ r. ⌜ r ≡ row .pair && isAnswer row input ⌝ }
-{
-    if !row.pair {
-        return false;
-    }
-    is_answer(row, input)
-}
-
-// Whether a number's code is one of the row's in a direction, and not its off.
-fn code_fits(direction: Direction, row: Row, encoded: Encoded) -> bool
-    ensures { λ r. ⌜ r ≡ codeFits direction row encoded ⌝ }
-{
+    let encoded = encode(row, content);
     match encoded {
-        Encoded::One(code) => number_byte(direction, row, code),
-        Encoded::Two(_, _) => false,
+        Encoded::One(byte) => is_said(direction, row, &[byte], content),
+        Encoded::Two(input, state) => is_said(direction, row, &[input, state], content),
         Encoded::NoCode => false,
     }
 }
 
-fn number_byte(direction: Direction, row: Row, code: u8) -> bool
-    ensures { λ r. ⌜ r ≡ numberByte direction row code ⌝ }
+// Whether a row has these data in a direction, and they say this form.
+fn is_said(direction: Direction, row: Row, body: &[u8], content: Content) -> bool
+    ensures { λ r. ⌜ r ≡ isSaid direction row (now (body .entry)) content ⌝ }
 {
-    if !value_byte(direction, row, code) {
+    if !data_fit(direction, row, body) {
         return false;
     }
-    !is_off(row, code)
+    form_number(content_of(direction, row, body)) == form_number(content)
 }
 
-fn value_byte(direction: Direction, row: Row, code: u8) -> bool
-    ensures { λ r. ⌜ r ≡ valueByte direction row code ⌝ }
+// Which form it is.
+fn form_number(content: Content) -> u8
+    ensures { λ r. ⌜ r ≡ formNumber content ⌝ }
 {
-    match direction {
-        Direction::Command => is_setting(row, code),
-        Direction::Answer => is_answer(row, code),
+    match content {
+        Content::Request => 0,
+        Content::Up => 1,
+        Content::Down => 2,
+        Content::On => 3,
+        Content::Off => 4,
+        Content::Toggle => 5,
+        Content::LevellerOff => 6,
+        Content::Number(_) => 7,
+        Content::Input(_, _) => 8,
     }
 }

@@ -16,7 +16,7 @@ use Rattle.row.specs.declared.table.Row.{Row}
 use Rattle.row.specs.declared.table.Found.{Found}
 use Rattle.row.specs.declared.table.Found.the-variants as found
 use Rattle.judging.specs.Judge.{isSetting, isAnswer, isPair, judgeRules}
-use Rattle.message.specs.Content.{isOff, contentOf, encodedOf, numberCode, codeFits, isForm}
+use Rattle.message.specs.Content.{isOff, contentOf, encodedOf, numberCode, isForm}
 use Rattle.message.specs.Message.{said, messageIn, readOf}
 use Rattle.message.specs.declared.content.Content.{Content}
 use Rattle.message.specs.declared.content.Content.the-variants.{Request, Up, Down, On, Off, Toggle, LevellerOff, Number, Input}
@@ -26,7 +26,8 @@ use Rattle.message.specs.declared.read.Said.{Said}
 use Rattle.message.specs.declared.read.Message.the-variants as message
 use Rattle.message.specs.declared.read.Reading.the-variants as reading
 use Rattle.judging.proofs.Judges.{Lies, lies-judged, judged-lies, judge-passes, same-row}
-use Rattle.message.proofs.Forms.{form-promise}
+use Rattle.message.proofs.Fits.{codeFits, fits}
+use Rattle.message.proofs.Forms.{form-promise, form-fits}
 use Rattle.message.proofs.Tests.{both, upto, upto-at}
 use Rattle.message.proofs.Tidy.{every, row-passes}
 use Rattle.unit.specs.House.{valueAfter}
@@ -121,16 +122,18 @@ module _ (profile : Profile) (command : ℕ) (row : Row) (there : rowOf profile 
   no-code NoCode f = clash f
 
   pub paired-form : (P : Content → Type 0) → P Request → ((i : ℕ) (on : Bool) → isAnswer row i ≡ true → P (Input i on)) → (c : Content) → isForm Command row c ≡ true → P c
-  unfolding isForm
-  paired-form P r p Request f = r
-  paired-form P r p Up f = clash (sym (marks .0) ∙ f)
-  paired-form P r p Down f = clash (sym (marks .0) ∙ f)
-  paired-form P r p On f = clash (sym (marks .1) ∙ f)
-  paired-form P r p Off f = clash (sym (marks .1) ∙ f)
-  paired-form P r p Toggle f = clash (sym (marks .2) ∙ f)
-  paired-form P r p LevellerOff f = clash (sym (marks .3) ∙ both (row .off) (isSetting row 0xFF) f .0)
-  paired-form P r p (Number z) f = no-code (numberCode row z) f
-  paired-form P r p (Input i on) f = p i on (both (row .pair) (isAnswer row i) f .1)
+  paired-form P r p c form = go c (form-fits profile command row Command c there form)
+    where
+      go : (c : Content) → fits Command row c ≡ true → P c
+      go Request f = r
+      go Up f = clash (sym (marks .0) ∙ f)
+      go Down f = clash (sym (marks .0) ∙ f)
+      go On f = clash (sym (marks .1) ∙ f)
+      go Off f = clash (sym (marks .1) ∙ f)
+      go Toggle f = clash (sym (marks .2) ∙ f)
+      go LevellerOff f = clash (sym (marks .3) ∙ both (row .off) (isSetting row 0xFF) f .0)
+      go (Number z) f = no-code (numberCode row z) f
+      go (Input i on) f = p i on (both (row .pair) (isAnswer row i) f .1)
 
 -- which cell a command is about
 module _ (row : Row) (s : Settings) (zone command : ℕ) (c : Content) where

@@ -21,12 +21,13 @@ use Rattle.row.specs.declared.table.Row.{Row}
 use Rattle.row.specs.declared.table.Found.the-variants as found
 use Rattle.row.proofs.Inverse.{signed-promise}
 use Rattle.judging.specs.Judge.{isSetting, isAnswer, isWord}
-use Rattle.message.specs.Content.{isOff, numberIn, contentOf, encodedOf, encodedData, encodedCode, numberCode, codeFits, isForm}
+use Rattle.message.specs.Content.{isOff, numberIn, contentOf, encodedOf, encodedData, encodedCode, numberCode, isForm}
 use Rattle.message.specs.declared.content.Content.{Content}
 use Rattle.message.specs.declared.content.Content.the-variants.{Request, Up, Down, On, Off, Toggle, LevellerOff, Number, Input}
 use Rattle.message.specs.declared.content.Encoded.{Encoded}
 use Rattle.message.specs.declared.content.Encoded.the-variants.{One, Two, NoCode}
-use Rattle.message.proofs.Forms.{form-promise}
+use Rattle.message.proofs.Fits.{codeFits, fits}
+use Rattle.message.proofs.Forms.{form-promise, form-fits}
 use Rattle.message.proofs.Tests.{both, upto, upto-at}
 use Rattle.message.proofs.Tidy.{areBytes, code-byte, every, row-passes}
 use Rattle.unit.specs.House.{isNotCalculated, unlessNotCalculated, landed, stepped, coded, valueAfter}
@@ -186,13 +187,12 @@ module _ (profile : Profile) (command : ℕ) (row : Row) (there : rowOf profile 
   off v e = (rw e, rw e)
 
   not-calculated : (v : ℕ) → isNotCalculated row v ≡ true → (c : Content) → isForm Command row c ≡ true → valueAfter row c v ≡ v
-  unfolding isForm
-  not-calculated v e c form = go c form
+  not-calculated v e c form = go c (form-fits profile command row Command c there form)
     where
       none : (row .steps ≡ false) × (row .toggle ≡ false) × (row .off ≡ false) × (row .pair ≡ false)
       none = none-of _ _ _ _ (well .eq (both (eqb (row .code) 0x37) _ e .0))
 
-      go : (c : Content) → isForm Command row c ≡ true → valueAfter row c v ≡ v
+      go : (c : Content) → fits Command row c ≡ true → valueAfter row c v ≡ v
       go Request f = refl
       go Up f = clash (sym (none .0) ∙ f)
       go Down f = clash (sym (none .0) ∙ f)
@@ -233,10 +233,9 @@ module _ (profile : Profile) (command : ℕ) (row : Row) (there : rowOf profile 
   coded-legal v NoCode f = clash f
 
   legal : row .pair ≡ false → (v : ℕ) → isAnswer row v ≡ true → (c : Content) → isForm Command row c ≡ true → isAnswer row (valueAfter row c v) ≡ true
-  unfolding isForm
-  legal single v a c form = go c form
+  legal single v a c form = go c (form-fits profile command row Command c there form)
     where
-      go : (c : Content) → isForm Command row c ≡ true → isAnswer row (valueAfter row c v) ≡ true
+      go : (c : Content) → fits Command row c ≡ true → isAnswer row (valueAfter row c v) ≡ true
       go Request f = a
       go Up f = stepped-legal sucℤ v a
       go Down f = stepped-legal predℤ v a
