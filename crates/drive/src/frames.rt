@@ -17,7 +17,7 @@ use frame::capture::Kind;
 use frame::capture::Next;
 use frame::capture::next_event;
 use frame::direction::Direction;
-use frame::direction::Named;
+use frame::direction::NamedDirection;
 use frame::reader::ByteAnswer;
 use frame::reader::Reader;
 use words::arguments::argument;
@@ -41,8 +41,8 @@ pub(crate) fn operate(operation: usize, space: &[u8], ends: [usize; 14], count: 
         return;
     }
     match frame::direction::direction_of(byte(space, ends, 1)) {
-        Named::Direction(direction) => { directed(operation, direction, space, ends, count) }
-        Named::Refused(number) => say_refused(number),
+        NamedDirection::Direction(direction) => { directed(operation, direction, space, ends, count) }
+        NamedDirection::Refused(number) => say_refused(number),
     }
 }
 

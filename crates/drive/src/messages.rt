@@ -43,8 +43,8 @@ pub(crate) fn operate(operation: usize, space: &[u8], ends: [usize; 14]) {
         return;
     }
     match row::profile::profile_of(byte(space, ends, 1)) {
-        row::profile::Named::Profile(profile) => { profiled(operation, profile, space, ends) }
-        row::profile::Named::Refused(number) => say_refused(number)
+        row::profile::NamedProfile::Profile(profile) => { profiled(operation, profile, space, ends) }
+        row::profile::NamedProfile::Refused(number) => say_refused(number)
     }
 }
 
@@ -75,10 +75,10 @@ fn profiled(operation: usize, profile: Profile, space: &[u8], ends: [usize; 14])
         return;
     }
     match frame::direction::direction_of(byte(space, ends, 2)) {
-        frame::direction::Named::Direction(direction) => {
+        frame::direction::NamedDirection::Direction(direction) => {
             directed(operation, profile, direction, space, ends)
         }
-        frame::direction::Named::Refused(number) => say_refused(number)
+        frame::direction::NamedDirection::Refused(number) => say_refused(number)
     }
 }
 

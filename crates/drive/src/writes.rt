@@ -128,16 +128,16 @@ fn write(
         return raw(space, ends, buf, spot);
     }
     match row::profile::profile_of(byte(space, ends, 1)) {
-        row::profile::Named::Profile(profile) => {
+        row::profile::NamedProfile::Profile(profile) => {
             profiled(operation, profile, space, ends, buf, spot)
         }
-        row::profile::Named::Refused(number) => Written::Refused(number),
+        row::profile::NamedProfile::Refused(number) => Written::Refused(number),
     }
 }
 
 fn raw(space: &[u8], ends: [usize; 14], buf: &mut [u8], spot: usize) -> Written {
     match frame::direction::direction_of(byte(space, ends, 1)) {
-        frame::direction::Named::Direction(direction) => {
+        frame::direction::NamedDirection::Direction(direction) => {
             let body = argument(space, ends, 7);
             write_raw(
                 direction,
@@ -149,7 +149,7 @@ fn raw(space: &[u8], ends: [usize; 14], buf: &mut [u8], spot: usize) -> Written 
                 body,
             )
         }
-        frame::direction::Named::Refused(number) => Written::Refused(number),
+        frame::direction::NamedDirection::Refused(number) => Written::Refused(number),
     }
 }
 
@@ -167,10 +167,10 @@ fn profiled(
         return write_message(profile, buf, spot, message, body);
     }
     match frame::direction::direction_of(byte(space, ends, 2)) {
-        frame::direction::Named::Direction(direction) => {
+        frame::direction::NamedDirection::Direction(direction) => {
             send(profile, direction, space, ends, buf, spot)
         }
-        frame::direction::Named::Refused(number) => Written::Refused(number),
+        frame::direction::NamedDirection::Refused(number) => Written::Refused(number),
     }
 }
 

@@ -8,8 +8,8 @@ use Rattle.frame.specs.Letter.{directionOf}
 use Rattle.frame.specs.Capture.{countedBy}
 use Rattle.frame.specs.Numbers.{letterNumber, countedNumber, countedTotals, noTotals}
 use Rattle.frame.specs.CaptureRefusalPromise.{CaptureRefusalPromise}
-use Rattle.frame.specs.declared.direction.Named.{Named}
-use Rattle.frame.specs.declared.direction.Named.the-variants as named
+use Rattle.frame.specs.declared.direction.NamedDirection.{NamedDirection}
+use Rattle.frame.specs.declared.direction.NamedDirection.the-variants as named
 use Rattle.frame.specs.declared.capture.Counted.{Counted}
 use Rattle.frame.specs.declared.capture.Counted.the-variants as counted
 
@@ -21,7 +21,7 @@ other-letter : (l : ℕ) → (l ≡ 0x43 → ⊥) → (l ≡ 0x52 → ⊥) → l
 unfolding directionOf
 other-letter l c r = rw (ne-eqb l 0x43 c, ne-eqb l 0x52 r)
 
-letter-first : (n : Named) (capture : List ℕ) → letterNumber n ≡ 12 → countedNumber (countedBy n capture) ≡ 12
+letter-first : (n : NamedDirection) (capture : List ℕ) → letterNumber n ≡ 12 → countedNumber (countedBy n capture) ≡ 12
 letter-first (named.Direction dir) capture e = absurd (omega (arith, e))
 letter-first (named.Refused n) capture e = e
 

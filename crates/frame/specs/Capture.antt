@@ -10,8 +10,8 @@ use Rattle.refusals.specs.Rule.{Rule, rule, ruled}
 use Rattle.frame.specs.Reader.{answers, takenBy}
 use Rattle.frame.specs.KeptReader.{answersOf, readerAfter}
 use Rattle.frame.specs.declared.direction.Direction.{Direction}
-use Rattle.frame.specs.declared.direction.Named.{Named}
-use Rattle.frame.specs.declared.direction.Named.the-variants as named
+use Rattle.frame.specs.declared.direction.NamedDirection.{NamedDirection}
+use Rattle.frame.specs.declared.direction.NamedDirection.the-variants as named
 use Rattle.frame.specs.declared.reader.ByteAnswer.{ByteAnswer}
 use Rattle.frame.specs.declared.reader.ByteAnswer.the-variants as answer
 use Rattle.frame.specs.declared.reader.Reader.{Reader}
@@ -71,7 +71,7 @@ abbrev pub countedOf : Direction → List ℕ → Counted
 countedOf dir capture = ruled (longCapture (length capture) ∷ []) counted.Refused (counted.Totals (totalsOf dir capture))
 
 -- "Order: 12, then 11, before all others."
-abbrev pub countedBy : Named → List ℕ → Counted
+abbrev pub countedBy : NamedDirection → List ℕ → Counted
 countedBy (named.Direction dir) capture = countedOf dir capture
 countedBy (named.Refused n) capture = counted.Refused n
 

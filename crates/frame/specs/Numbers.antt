@@ -1,14 +1,14 @@
 -- Document 01, 'Which language form to use': "Where an answer is an enum, a definition gives this paper's number and values for
 -- each of its cases." 'Refusal numbers': "A refusal returns its number and zero for every other field". 0 stands for accepted.
 use Prim.Native.Nat.{ℕ}
-use Rattle.frame.specs.declared.direction.Named.{Named}
-use Rattle.frame.specs.declared.direction.Named.the-variants as named
+use Rattle.frame.specs.declared.direction.NamedDirection.{NamedDirection}
+use Rattle.frame.specs.declared.direction.NamedDirection.the-variants as named
 use Rattle.frame.specs.declared.capture.Totals.{Totals}
 use Rattle.frame.specs.declared.capture.Counted.{Counted}
 use Rattle.frame.specs.declared.capture.Counted.the-variants as counted
 
 -- a letter
-abbrev pub letterNumber : Named → ℕ
+abbrev pub letterNumber : NamedDirection → ℕ
 letterNumber (named.Direction dir) = 0
 letterNumber (named.Refused n) = n
 

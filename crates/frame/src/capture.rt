@@ -1,5 +1,5 @@
 use crate::direction::Direction;
-use crate::direction::Named;
+use crate::direction::NamedDirection;
 use crate::direction::direction_of;
 use crate::reader::Reader;
 ghost use mathlib.Core.Path.{_≡_};
@@ -71,8 +71,8 @@ pub fn capture_totals_by_letter(letter: u8, capture: &[u8]) -> Counted
     ensures { λ r. ⌜ r ≡ countedBy (directionOf letter) (now (capture .entry)) ⌝ }
 {
     match direction_of(letter) {
-        Named::Direction(direction) => capture_totals(direction, capture),
-        Named::Refused(number) => Counted::Refused(number),
+        NamedDirection::Direction(direction) => capture_totals(direction, capture),
+        NamedDirection::Refused(number) => Counted::Refused(number),
     }
 }
 

@@ -8,20 +8,20 @@ pub enum Direction {
 }
 
 // What a direction letter names.
-pub enum Named {
+pub enum NamedDirection {
     Direction(Direction),
     Refused(u8),
 }
 
 // `C` names commands and `R` answers; any other letter is refused with 12.
-pub fn direction_of(letter: u8) -> Named
+pub fn direction_of(letter: u8) -> NamedDirection
     ensures { λ r. ⌜ r ≡ directionOf letter ⌝ }
 {
     if letter == b'C' {
-        return Named::Direction(Direction::Command);
+        return NamedDirection::Direction(Direction::Command);
     }
     if letter == b'R' {
-        return Named::Direction(Direction::Answer);
+        return NamedDirection::Direction(Direction::Answer);
     }
-    Named::Refused(12)
+    NamedDirection::Refused(12)
 }

@@ -10,13 +10,13 @@ use lib.ListN.{length, getD}
 use Rattle.frame.specs.Capture.{captureLimit}
 use Rattle.frame.specs.Letter.{directionOf}
 use Rattle.frame.specs.declared.direction.Direction.{Direction}
-use Rattle.frame.specs.declared.direction.Named as direction
-use Rattle.frame.specs.declared.direction.Named.the-variants as directed
+use Rattle.frame.specs.declared.direction.NamedDirection as direction
+use Rattle.frame.specs.declared.direction.NamedDirection.the-variants as directed
 use Rattle.row.specs.Profile.{profileOf}
 use Rattle.row.specs.declared.profile.Profile.{Profile}
 use Rattle.row.specs.declared.profile.Profile.the-variants.{A, S}
-use Rattle.row.specs.declared.profile.Named as profile
-use Rattle.row.specs.declared.profile.Named.the-variants as family
+use Rattle.row.specs.declared.profile.NamedProfile as profile
+use Rattle.row.specs.declared.profile.NamedProfile.the-variants as family
 use Rattle.listing_text.specs.Listing.{askedBy, asked}
 use Rattle.listing_text.specs.Numbers.{askedNumber}
 use Rattle.listing_text.specs.AskedPromise.{AskedPromise}
@@ -35,7 +35,7 @@ asked-letters (p ∷ d ∷ capture) h =
     let rest : length (p ∷ d ∷ capture) - 2 ≡ length capture = omega arith in
     ap (λ (n : ℕ). askedBy (profileOf p) (directionOf d) n) rest
 
-small-by : (p : profile.Named) (d : direction.Named) (n : ℕ) (q : Profile) (dir : Direction) → askedBy p d n ≡ asks.Listing q dir → n ≤ captureLimit
+small-by : (p : profile.NamedProfile) (d : direction.NamedDirection) (n : ℕ) (q : Profile) (dir : Direction) → askedBy p d n ≡ asks.Listing q dir → n ≤ captureLimit
 small-by (family.Profile p) (directed.Direction d) n q dir e = go (ltb captureLimit n) refl
   where
     go : (t : Bool) → ltb captureLimit n ≡ t → n ≤ captureLimit

@@ -6,10 +6,10 @@ use lib.ListN.{length}
 use Rattle.frame.specs.Capture.{captureLimit}
 use Rattle.frame.specs.Letter.{directionOf}
 use Rattle.frame.specs.declared.direction.Direction.{Direction}
-use Rattle.frame.specs.declared.direction.Named.the-variants as directed
+use Rattle.frame.specs.declared.direction.NamedDirection.the-variants as directed
 use Rattle.row.specs.Profile.{profileOf}
 use Rattle.row.specs.declared.profile.Profile.{Profile}
-use Rattle.row.specs.declared.profile.Named.the-variants as family
+use Rattle.row.specs.declared.profile.NamedProfile.the-variants as family
 use Rattle.listing_text.specs.Listing.{asked}
 use Rattle.listing_text.specs.Numbers.{askedNumber}
 use Rattle.listing_text.specs.declared.asked.Asked.the-variants.{Listing}

@@ -13,16 +13,16 @@ use Rattle.characters.specs.Letters.{letters}
 use Rattle.characters.specs.Decimal.{decimal, integer}
 use Rattle.characters.specs.Hex.{hexByte}
 use Rattle.frame.specs.declared.direction.Direction.{Direction}
-use Rattle.frame.specs.declared.direction.Named as direction
-use Rattle.frame.specs.declared.direction.Named.the-variants as directed
+use Rattle.frame.specs.declared.direction.NamedDirection as direction
+use Rattle.frame.specs.declared.direction.NamedDirection.the-variants as directed
 use Rattle.frame.specs.declared.capture.Kind.the-variants as kind
 use Rattle.frame.specs.declared.capture.Kind.{Kind}
 use Rattle.frame.specs.declared.capture.Event.{Event}
 use Rattle.frame.specs.declared.capture.Totals.{Totals}
 use Rattle.row.specs.Profile.{profileOf}
 use Rattle.row.specs.declared.profile.Profile.{Profile}
-use Rattle.row.specs.declared.profile.Named as profile
-use Rattle.row.specs.declared.profile.Named.the-variants as family
+use Rattle.row.specs.declared.profile.NamedProfile as profile
+use Rattle.row.specs.declared.profile.NamedProfile.the-variants as family
 use Rattle.message.specs.Message.{frameRead}
 use Rattle.message.specs.declared.content.Content.{Content}
 use Rattle.message.specs.declared.content.Content.the-variants.{Request, Up, Down, On, Off, Toggle, LevellerOff, Number, Input}
@@ -99,7 +99,7 @@ abbrev pub refusedText : ℕ → List ℕ
 refusedText n = textLine (letters "refused") (decimal n ∷ [])
 
 -- what an input asks for: "Order: 12, then 11, before all others."
-abbrev pub askedBy : profile.Named → direction.Named → ℕ → Asked
+abbrev pub askedBy : profile.NamedProfile → direction.NamedDirection → ℕ → Asked
 askedBy (family.Profile p) (directed.Direction dir) count = ruled (longCapture count ∷ []) asks.Refused (asks.Listing p dir)
 askedBy (family.Profile p) (directed.Refused n) count = asks.Refused n
 askedBy (family.Refused n) named count = asks.Refused n

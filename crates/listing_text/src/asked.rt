@@ -6,7 +6,7 @@ use row::profile::Profile;
 use row::profile::profile_of;
 ghost use mathlib.Core.Path.{_≡_};
 ghost use Rattle.frame.specs.Letter.{directionOf};
-ghost use Rattle.row.specs.declared.profile.Named.the-variants as family;
+ghost use Rattle.row.specs.declared.profile.NamedProfile.the-variants as family;
 ghost use Rattle.listing_text.specs.Listing.{askedBy, asked};
 
 // The listing of the capture behind the letters, or the number of a refusal.
@@ -23,8 +23,8 @@ pub fn what_is_asked(input: &[u8]) -> Asked
         return Asked::Refused(12);
     }
     match profile_of(input[0]) {
-        row::profile::Named::Profile(profile) => asked_of(profile, input[1], input.len() - 2),
-        row::profile::Named::Refused(number) => Asked::Refused(number),
+        row::profile::NamedProfile::Profile(profile) => asked_of(profile, input[1], input.len() - 2),
+        row::profile::NamedProfile::Refused(number) => Asked::Refused(number),
     }
 }
 
@@ -32,12 +32,12 @@ fn asked_of(profile: Profile, letter: u8, count: usize) -> Asked
     ensures { λ r. ⌜ r ≡ askedBy (family.Profile profile) (directionOf letter) count ⌝ }
 {
     match direction_of(letter) {
-        frame::direction::Named::Direction(direction) => {
+        frame::direction::NamedDirection::Direction(direction) => {
             if count > CAPTURE_LIMIT {
                 return Asked::Refused(11);
             }
             Asked::Listing(profile, direction)
         }
-        frame::direction::Named::Refused(number) => Asked::Refused(number),
+        frame::direction::NamedDirection::Refused(number) => Asked::Refused(number),
     }
 }

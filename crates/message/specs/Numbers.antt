@@ -4,8 +4,8 @@ use Prim.Native.Nat.{ℕ}
 use mathlib.Core.List.{List, []}
 use Rattle.message.specs.Write.{saidData}
 use Rattle.row.specs.declared.profile.Profile.{Profile}
-use Rattle.row.specs.declared.profile.Named.{Named}
-use Rattle.row.specs.declared.profile.Named.the-variants as named
+use Rattle.row.specs.declared.profile.NamedProfile.{NamedProfile}
+use Rattle.row.specs.declared.profile.NamedProfile.the-variants as named
 use Rattle.message.specs.declared.read.Message.{Message}
 use Rattle.message.specs.declared.read.Message.the-variants as message
 use Rattle.message.specs.declared.read.Reading.{Reading}
@@ -14,7 +14,7 @@ use Rattle.message.specs.declared.read.FrameReading.{FrameReading}
 use Rattle.message.specs.declared.read.FrameReading.the-variants as frame
 
 -- a profile's letter
-abbrev pub profileNumber : Named → ℕ
+abbrev pub profileNumber : NamedProfile → ℕ
 profileNumber (named.Profile profile) = 0
 profileNumber (named.Refused n) = n
 

@@ -1,4 +1,5 @@
-// The rows of the two profiles, as document 01's table has them, and how codes mean numbers.
+// The rows of the two profiles. `profile` names the receiver families and their zones, `table` has document 01's table and
+// finds the row of a command, and `signed` goes from a code to the number it means and back.
 pub mod profile;
 pub mod signed;
 pub mod table;

@@ -8,22 +8,22 @@ pub enum Profile {
 }
 
 // What a profile letter names.
-pub enum Named {
+pub enum NamedProfile {
     Profile(Profile),
     Refused(u8),
 }
 
 // `A` and `S` name themselves; any other letter is refused with 12.
-pub fn profile_of(letter: u8) -> Named
+pub fn profile_of(letter: u8) -> NamedProfile
     ensures { λ r. ⌜ r ≡ profileOf letter ⌝ }
 {
     if letter == b'A' {
-        return Named::Profile(Profile::A);
+        return NamedProfile::Profile(Profile::A);
     }
     if letter == b'S' {
-        return Named::Profile(Profile::S);
+        return NamedProfile::Profile(Profile::S);
     }
-    Named::Refused(12)
+    NamedProfile::Refused(12)
 }
 
 // The letter of a profile.

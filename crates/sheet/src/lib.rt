@@ -1,4 +1,5 @@
-// Sheets of wanted settings: which are accepted, and where one is at fault.
+// Sheets of wanted settings. `line` says which line is legal, `sheet` keeps a sheet's lines by value, and `check` accepts a
+// sheet or finds its lowest fault: 6, then 7 and 8 with the line's index.
 pub mod check;
 pub mod line;
 pub mod sheet;

@@ -5,8 +5,8 @@ use Prim.Native.Nat.{ℕ}
 use borrow.Author.Tests.{ne-eqb}
 use Rattle.row.specs.Profile.{profileOf}
 use Rattle.row.specs.declared.profile.Profile.{Profile}
-use Rattle.row.specs.declared.profile.Named.{Named}
-use Rattle.row.specs.declared.profile.Named.the-variants as named
+use Rattle.row.specs.declared.profile.NamedProfile.{NamedProfile}
+use Rattle.row.specs.declared.profile.NamedProfile.the-variants as named
 use Rattle.sheet.specs.Sheet.{noLines, withAll, linesOf}
 use Rattle.sheet.specs.Check.{sheetVerdict}
 use Rattle.sheetfile.specs.File.{records, linesIn, fileOf, fileVerdict, readBy, fileRead, fileReadBy}
@@ -24,7 +24,7 @@ use Rattle.sheet.specs.declared.check.Verdict.the-variants as verdict
 use Rattle.sheetfile.proofs.Trips.{verdict-of, accepted-marked, trip-back, trip-lines, trip-verdict}
 use Rattle.sheetfile.proofs.Together.{file-answer, file-after, run-answer, run-after}
 
-pub verdict-by : (family : Named) (file : List ℕ) → fileReadBy family file .verdict ≡ fileVerdictBy family file
+pub verdict-by : (family : NamedProfile) (file : List ℕ) → fileReadBy family file .verdict ≡ fileVerdictBy family file
 verdict-by (named.Profile profile) file = verdict-of profile (fileVerdict profile file) (linesIn (records file))
 verdict-by (named.Refused n) file = refl
 

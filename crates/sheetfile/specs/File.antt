@@ -8,8 +8,8 @@ use lib.ListN.{length}
 use Rattle.refusals.specs.Rule.{rule, ruled}
 use Rattle.row.specs.Profile.{letterOf}
 use Rattle.row.specs.declared.profile.Profile.{Profile}
-use Rattle.row.specs.declared.profile.Named.{Named}
-use Rattle.row.specs.declared.profile.Named.the-variants as named
+use Rattle.row.specs.declared.profile.NamedProfile.{NamedProfile}
+use Rattle.row.specs.declared.profile.NamedProfile.the-variants as named
 use Rattle.sheet.specs.Sheet.{noLines, withAll}
 use Rattle.lists.specs.InOrder.{inOrder}
 use Rattle.sheet.specs.Check.{firstRefusal, sheetVerdict}
@@ -87,6 +87,6 @@ abbrev pub fileRead : Profile → List ℕ → FileRead
 fileRead profile file = readBy (fileVerdict profile file) (linesIn (records file))
 
 -- by the profile's letter: 12 "before all others", for an empty file too
-abbrev pub fileReadBy : Named → List ℕ → FileRead
+abbrev pub fileReadBy : NamedProfile → List ℕ → FileRead
 fileReadBy (named.Profile profile) file = fileRead profile file
 fileReadBy (named.Refused n) file = record { verdict = Refused n 0; sheet = noLines }

@@ -5,7 +5,7 @@ use mathlib.Core.List.{List}
 use Prim.Native.Nat.{ℕ}
 use Rattle.row.specs.Profile.{profileOf}
 use Rattle.row.specs.declared.profile.Profile.{Profile}
-use Rattle.row.specs.declared.profile.Named.the-variants as named
+use Rattle.row.specs.declared.profile.NamedProfile.the-variants as named
 use Rattle.sheet.specs.Check.{sheetVerdict}
 use Rattle.sheetfile.specs.File.{fileOf}
 use Rattle.sheetfile.specs.Written.{fileAnswered, fileLeft, runAnswered, runLeft, sheetWrittenNumber, sheetWrittenPlace}

@@ -3,7 +3,7 @@ use crate::file::read_file_by_letter;
 use crate::write::Form;
 use crate::write::SheetWritten;
 use crate::write::put_sheet;
-use row::profile::Named;
+use row::profile::NamedProfile;
 use row::profile::Profile;
 use row::profile::profile_of;
 use sheet::check::Verdict;
@@ -44,8 +44,8 @@ fn write_by(form: Form, letter: u8, file: &[u8], buf: &mut [u8], at: usize) -> S
     ensures leaves { λ _. ⌜ now (buf .exit) ≡ sheetLeft (fileVerdictBy (profileOf letter) (now (file .entry))) (now (buf .entry)) at (fileAs form (now (file .entry))) ⌝ }
 {
     match profile_of(letter) {
-        Named::Profile(profile) => write_read(form, profile, file, buf, at),
-        Named::Refused(number) => SheetWritten::Refused(number, 0),
+        NamedProfile::Profile(profile) => write_read(form, profile, file, buf, at),
+        NamedProfile::Refused(number) => SheetWritten::Refused(number, 0),
     }
 }
 

@@ -1,4 +1,4 @@
-use row::profile::Named;
+use row::profile::NamedProfile;
 use row::profile::Profile;
 use row::profile::letter_of;
 use row::profile::profile_of;
@@ -33,8 +33,8 @@ pub fn read_file_by_letter(letter: u8, file: &[u8]) -> FileRead
     ensures { λ r. ⌜ r ≡ fileReadBy (profileOf letter) (now (file .entry)) ⌝ }
 {
     match profile_of(letter) {
-        Named::Profile(profile) => read_file(profile, file),
-        Named::Refused(number) => file_refused(number, 0),
+        NamedProfile::Profile(profile) => read_file(profile, file),
+        NamedProfile::Refused(number) => file_refused(number, 0),
     }
 }
 

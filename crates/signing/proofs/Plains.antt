@@ -10,7 +10,7 @@ use Rattle.refusals.specs.Rule.{ruled}
 use Rattle.frame.specs.Capture.{captureLimit, longCapture}
 use Rattle.row.specs.Profile.{profileOf}
 use Rattle.row.specs.declared.profile.Profile.{Profile}
-use Rattle.row.specs.declared.profile.Named.the-variants as named
+use Rattle.row.specs.declared.profile.NamedProfile.the-variants as named
 use Rattle.sheet.specs.Sheet.{linesOf}
 use Rattle.sheetfile.specs.File.{records, linesIn, fileRead}
 use Rattle.sheet.specs.declared.line.Line.{Line}

@@ -6,8 +6,8 @@ use lib.ListN.{length}
 use Rattle.refusals.specs.Rule.{ruled}
 use Rattle.frame.specs.Capture.{longCapture}
 use Rattle.row.specs.declared.profile.Profile.{Profile}
-use Rattle.row.specs.declared.profile.Named.{Named}
-use Rattle.row.specs.declared.profile.Named.the-variants as named
+use Rattle.row.specs.declared.profile.NamedProfile.{NamedProfile}
+use Rattle.row.specs.declared.profile.NamedProfile.the-variants as named
 use Rattle.sheetfile.specs.File.{records, linesIn, fileVerdict}
 use Rattle.tracker.specs.Tracker.{freshTracker, keptIn}
 use Rattle.tracker.specs.Feed.{answersFed}
@@ -25,7 +25,7 @@ fileSigned profile file capture =
     ruled (longCapture (length capture) ∷ []) (λ n. signed.Refused n 0)
     (signedBy (fileVerdict profile file) (allHold (answersFed (freshTracker profile) (broughtBy capture)) (linesIn (records file))))
 
-abbrev pub fileSignedBy : Named → List ℕ → List ℕ → Signed
+abbrev pub fileSignedBy : NamedProfile → List ℕ → List ℕ → Signed
 fileSignedBy (named.Profile profile) file capture = fileSigned profile file capture
 fileSignedBy (named.Refused n) file capture = signed.Refused n 0
 
@@ -39,7 +39,7 @@ abbrev pub captureCell : Profile → List ℕ → ℕ → ℕ → CaptureCell
 captureCell profile capture zone command =
     ruled (longCapture (length capture) ∷ []) cell.Refused (shownCell (keptIn (answersFed (freshTracker profile) (broughtBy capture)) zone command))
 
-abbrev pub captureCellBy : Named → List ℕ → ℕ → ℕ → CaptureCell
+abbrev pub captureCellBy : NamedProfile → List ℕ → ℕ → ℕ → CaptureCell
 captureCellBy (named.Profile profile) capture zone command = captureCell profile capture zone command
 captureCellBy (named.Refused n) capture zone command = cell.Refused n
 

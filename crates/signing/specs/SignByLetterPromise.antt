@@ -7,7 +7,7 @@ use lib.ListN.{length}
 use Rattle.frame.specs.Capture.{captureLimit}
 use Rattle.row.specs.Profile.{profileOf}
 use Rattle.row.specs.declared.profile.Profile.{Profile}
-use Rattle.row.specs.declared.profile.Named.the-variants as named
+use Rattle.row.specs.declared.profile.NamedProfile.the-variants as named
 use Rattle.sheetfile.specs.File.{fileOf, fileVerdict}
 use Rattle.sheet.specs.declared.line.Line.{Line}
 use Rattle.sheet.specs.declared.check.Verdict.the-variants as verdict

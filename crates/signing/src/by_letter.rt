@@ -1,7 +1,7 @@
 use crate::capture::capture_signs;
 use crate::sign::Signed;
 use frame::capture::CAPTURE_LIMIT;
-use row::profile::Named;
+use row::profile::NamedProfile;
 use row::profile::Profile;
 use row::profile::profile_of;
 use sheet::check::Verdict;
@@ -29,8 +29,8 @@ pub fn sign_file(letter: u8, file: &[u8], capture: &[u8]) -> Signed
     ensures { λ r. ⌜ r ≡ fileSignedBy (profileOf letter) (now (file .entry)) (now (capture .entry)) ⌝ }
 {
     match profile_of(letter) {
-        Named::Profile(profile) => sign_file_by(profile, file, capture),
-        Named::Refused(number) => Signed::Refused(number, 0),
+        NamedProfile::Profile(profile) => sign_file_by(profile, file, capture),
+        NamedProfile::Refused(number) => Signed::Refused(number, 0),
     }
 }
 
@@ -39,8 +39,8 @@ pub fn cell_in_capture(letter: u8, capture: &[u8], zone: u8, command: u8) -> Cap
     ensures { λ r. ⌜ r ≡ captureCellBy (profileOf letter) (now (capture .entry)) zone command ⌝ }
 {
     match profile_of(letter) {
-        Named::Profile(profile) => cell_by(profile, capture, zone, command),
-        Named::Refused(number) => CaptureCell::Refused(number),
+        NamedProfile::Profile(profile) => cell_by(profile, capture, zone, command),
+        NamedProfile::Refused(number) => CaptureCell::Refused(number),
     }
 }
 

@@ -8,7 +8,7 @@ use lent::written::Written;
 use message::content::Content;
 use message::read::Message;
 use message::read::Reading;
-use row::profile::Named;
+use row::profile::NamedProfile;
 use row::profile::Profile;
 use sheet::line::Line;
 use sheet::sheet::SHEET_LIMIT;
@@ -130,10 +130,10 @@ fn say_wanted(letter: u8, line: Line) {
 fn say_value(letter: u8, zone: u8, command: u8, value: u8) {
     io::write_all(OUT, b" ");
     match row::profile::profile_of(letter) {
-        Named::Profile(profile) => {
+        NamedProfile::Profile(profile) => {
             say_status(profile, zone, command, value);
         }
-        Named::Refused(_) => {
+        NamedProfile::Refused(_) => {
             say_hex(value);
         }
     }

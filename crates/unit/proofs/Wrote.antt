@@ -2,7 +2,7 @@
 use mathlib.Core.Path.{_≡_, ap, sym, _∙_, subst}
 use mathlib.Core.List.{List}
 use Prim.Native.Nat.{ℕ}
-use Rattle.row.specs.declared.profile.Named.{Named}
+use Rattle.row.specs.declared.profile.NamedProfile.{NamedProfile}
 use Rattle.sheet.specs.Check.{sheetVerdict}
 use Rattle.sheetfile.specs.File.{records, linesIn, fileVerdict}
 use Rattle.sheetfile.specs.Run.{runOf}
@@ -23,10 +23,10 @@ written-demand-3 = record {
       (demand-3 .holds profile s before sheet cuts bytes (w .accepted));
   file = λ letter profile s before file cuts buf at n named bytes e.
       let sheet = linesIn (records file) in
-      let answered = ap (λ (family : Named). fileRunAnswered family file buf at) (sym named) ∙ e in
+      let answered = ap (λ (family : NamedProfile). fileRunAnswered family file buf at) (sym named) ∙ e in
       let w = wrote buf at (runOf sheet) (fileVerdict profile file) n answered in
       let accepted : sheetVerdict profile sheet ≡ verdict.Accepted = accepted-marked profile file (w .accepted) .2 in
-      let there = ap (λ (family : Named). placedBytes (fileRunLeft family file buf at) at n) named ∙ w .there in
+      let there = ap (λ (family : NamedProfile). placedBytes (fileRunLeft family file buf at) at n) named ∙ w .there in
       subst (λ (run : List ℕ). Promised (stopped profile s before) sheet (sendings cuts run)) (sym there)
       (demand-3 .holds profile s before sheet cuts bytes accepted);
 }

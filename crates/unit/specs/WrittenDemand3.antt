@@ -6,7 +6,7 @@ use mathlib.Core.List.{List}
 use lib.ListN.{take, drop}
 use Rattle.row.specs.Profile.{profileOf}
 use Rattle.row.specs.declared.profile.Profile.{Profile}
-use Rattle.row.specs.declared.profile.Named.the-variants as named
+use Rattle.row.specs.declared.profile.NamedProfile.the-variants as named
 use Rattle.sheetfile.specs.File.{records, linesIn}
 use Rattle.sheetfile.specs.Written.{runAnswered, runLeft}
 use Rattle.sheetfile.specs.ByLetter.{fileRunAnswered, fileRunLeft}
