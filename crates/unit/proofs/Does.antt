@@ -17,6 +17,8 @@ use Rattle.unit.specs.House.{valueAfter}
 use Rattle.unit.specs.Unit.{Setting, value, input, current, Settings, put, Unit, shown, about, Done, actedIn, doneBy, byteDone, zoneIn, commandIn, heard, frameDone, replies}
 use Rattle.unit.specs.UnitPromise.{ActPromise, BytePromise}
 use Rattle.unit.proofs.Cells.{cell-self, put-same}
+use Rattle.streams.specs.Stream.{answersBy}
+use Rattle.lists.specs.InOrder.{inOrder}
 
 -- a command acts about one cell, over the row that was found
 module _ (profile : Profile) (s : Settings) (bytes : List ℕ) (c : Said) (h : heard profile bytes ≡ reading.Message (message.Command c)) (row : Row)
@@ -53,7 +55,7 @@ module _ (profile : Profile) (s : Settings) (bytes : List ℕ) (c : Said) (h : h
   }
 
 pub byte-promise : (u : Unit) (b : ℕ) → BytePromise u b
-unfolding replies
+unfolding answersBy inOrder
 byte-promise u b = record {
   frame = λ n e. ap (byteDone u b) e;
   broken = λ n e. ap (byteDone u b) e;

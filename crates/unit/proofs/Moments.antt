@@ -4,6 +4,8 @@ use mathlib.Core.List.{List, [], _∷_, _++_}
 use Prim.Native.Nat.{ℕ, zero, suc}
 use lib.ListN.{take}
 use Rattle.unit.specs.Unit.{Unit, takes, after}
+use Rattle.streams.specs.Stream.{readerBy}
+use Rattle.streams.proofs.Cut.{reader-append}
 
 unfoldable pub Always : (Unit → Type 0) → Unit → List ℕ → Type 0
 Always P u [] = P u
@@ -16,12 +18,12 @@ module _ (P : Unit → Type 0) where
   always-first u (b ∷ bs) a = a .0
 
   pub always-last : (u : Unit) (bs : List ℕ) → Always P u bs → P (after u bs)
-  unfolding Always after
+  unfolding Always readerBy
   always-last u [] a = a
   always-last u (b ∷ bs) a = always-last (takes u b) bs (a .1)
 
   pub always-append : (u : Unit) (bs cs : List ℕ) → Always P u bs → Always P (after u bs) cs → Always P u (bs ++ cs)
-  unfolding Always after
+  unfolding Always readerBy
   always-append u [] cs a c = c
   always-append u (b ∷ bs) cs a c = (a .0, always-append (takes u b) bs cs (a .1) c)
 
@@ -32,6 +34,4 @@ module _ (P : Unit → Type 0) where
   always-take (suc n) u (b ∷ bs) a = (a .0, always-take n (takes u b) bs (a .1))
 
 pub after-append : (u : Unit) (bs cs : List ℕ) → after u (bs ++ cs) ≡ after (after u bs) cs
-unfolding after
-after-append u [] cs = refl
-after-append u (b ∷ bs) cs = after-append (takes u b) bs cs
+after-append u bs cs = reader-append takes u bs cs

@@ -24,6 +24,7 @@ use Rattle.lists.proofs.Each.{each-map, each-zip}
 use Rattle.unit.proofs.Sets.{line-promise}
 use Rattle.unit.proofs.Flush.{Within, byte-within, zero-nearer, opened, bytes-within, quiet}
 use Rattle.unit.proofs.Moments.{Always, always-last, always-append, always-take, after-append}
+use Rattle.streams.specs.Stream.{readerBy}
 
 pub near-more : (j k : ℕ) (taken : List ℕ) → j ≤ k → Within Command j taken → Within Command k taken
 near-more j k taken h w some = omega (arith, w some)
@@ -55,7 +56,7 @@ module _ (profile : Profile) (start want : Settings) where
     near : Within Command k (after u (replicate n 0) .taken)
 
   flushed : (n k : ℕ) (u : Unit) → Good u → Within Command (n + k) (u .taken) → Flushed u n k
-  unfolding Always after
+  unfolding Always readerBy
   flushed zero k u g w = record { always = g; near = near-more (0 + k) k (u .taken) (omega arith) w }
   flushed (suc n) k u g w =
       let not-end : 0 ≡ ends → ⊥ = λ e. omega arith in
@@ -106,7 +107,7 @@ module _ (profile : Profile) (start want : Settings) where
     inside taken h = record { family = g .family; near = h; between = g .between }
 
     frame-after : after u (lineFrame l) ≡ framed-unit
-    unfolding after frameOf answerTo takenAfter
+    unfolding readerBy frameOf answerTo takenAfter
     frame-after = ap (λ (x : Unit). after x rest) first ∙ ap (λ (s : Settings). record { profile = u .profile; taken = []; settings = s }) sets
 
     frame-ended : Good (record { profile = u .profile; taken = []; settings = frameDone (u .profile) (u .settings) (opens ∷ rest) .settings })
@@ -145,7 +146,7 @@ module _ (profile : Profile) (start want : Settings) where
     all : Each (Reached (after u (framesOf ls))) ls
 
   framed : (ls : List Line) → Each Wanted ls → (u : Unit) → Good u → Within Command 1 (u .taken) → Framed u ls
-  unfolding inOrder Always after
+  unfolding inOrder Always readerBy
   framed [] w u g near = record { always = g; keeps = λ x e. e; all = tt }
   framed (l ∷ ls) w u g near =
       let one = frame-after l (w .0) u g near in

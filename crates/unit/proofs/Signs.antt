@@ -51,6 +51,7 @@ use Rattle.unit.proofs.Sets.{reads, line-promise}
 use Rattle.unit.proofs.Answers.{answer-reads, done-promise}
 use Rattle.unit.proofs.Truth.{replies-append, brought-append, known-true}
 use Rattle.unit.proofs.Demand.{fit, demand-3}
+use Rattle.streams.specs.Stream.{answersBy, readerBy}
 
 -- the answer to a legal line's frame
 abbrev answerOf : Line → BroughtAnswer
@@ -74,7 +75,7 @@ module _ (l : Line) (u : Unit) (legal : isLegal (u .profile) l ≡ true) (near :
       λ i. record { profile = u .profile; taken = taken i; settings = same i }
 
   line-answers : replies u (lineFrame l) ≡ frameOf Answer (l .zone) (l .command) 0x00 (l .value ∷ [])
-  unfolding replies frameOf answerTo takenAfter
+  unfolding answersBy inOrder frameOf answerTo takenAfter
   line-answers =
       ap (λ (d : Done). d .answer ++ replies (takes u opens) rest) opens-quiet
       ∙ ap (λ (x : Unit). replies x rest) first
@@ -82,18 +83,18 @@ module _ (l : Line) (u : Unit) (legal : isLegal (u .profile) l ≡ true) (near :
       ∙ line-promise (u .profile) (u .settings) l .answers legal
 
   line-taken : after u (lineFrame l) .taken ≡ []
-  unfolding after frameOf answerTo takenAfter
+  unfolding readerBy frameOf answerTo takenAfter
   line-taken = ap (λ (x : Unit). after x rest .taken) first
 
 after-profile : (u : Unit) (bs : List ℕ) → after u bs .profile ≡ u .profile
-unfolding after
+unfolding readerBy
 after-profile u [] = refl
 after-profile u (b ∷ bs) = after-profile (takes u b) bs
 
 -- the frames of legal lines, from a reader that 21 opens
 frames-answered : (ls : List Line) (u : Unit) → Each (λ (l : Line). isLegal (u .profile) l ≡ true) ls → Within Command 1 (u .taken)
     → broughtBy (replies u (framesOf ls)) ≡ answersOf ls
-unfolding inOrder replies
+unfolding inOrder answersBy
 frames-answered [] u w near = brought-none
 frames-answered (l ∷ ls) u w near =
     let next : Unit = after u (lineFrame l) in
@@ -106,7 +107,7 @@ frames-answered (l ∷ ls) u w near =
     ∙ ap (λ (xs : List BroughtAnswer). answerOf l ∷ xs) more
 
 zeros-near : (n k : ℕ) (u : Unit) → Within Command (n + k) (u .taken) → Within Command k (after u (replicate n 0) .taken)
-unfolding after
+unfolding readerBy
 zeros-near zero k u w = near-more (0 + k) k (u .taken) (omega arith) w
 zeros-near (suc n) k u w =
     zeros-near n k (takes u 0) (zero-nearer Command (u .taken) (n + k) (near-more (suc n + k) (suc (n + k)) (u .taken) (omega arith) w))

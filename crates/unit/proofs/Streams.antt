@@ -28,7 +28,8 @@ use Rattle.unit.specs.UnitPromise.{UnitPromise, HeardPromise}
 use Rattle.unit.proofs.Flush.{by-place}
 use Rattle.unit.proofs.Acts.{frame-legal, frame-now}
 use Rattle.unit.proofs.Answers.{bytes-append, frame-bytes}
-use Rattle.streams.specs.Stream.{readerBy}
+use Rattle.streams.specs.Stream.{readerBy, answersBy}
+use Rattle.lists.specs.InOrder.{inOrder}
 
 module _ (u : Unit) (b : ℕ) where
   -- a byte does nothing, or what its frame does
@@ -57,17 +58,17 @@ module _ (u : Unit) (b : ℕ) where
       by-place Command (u .taken) b Bytes (cases Bytes (eqb b opens) (λ e. (h, tt)) (λ e. tt)) (λ some early. bytes-append (u .taken) (b ∷ []) t (h, tt))
 
 stays-legal : (u : Unit) (sent : List ℕ) → Legal (u .profile) (u .settings) → Legal (u .profile) (after u sent .settings)
-unfolding after
+unfolding readerBy
 stays-legal u [] l = l
 stays-legal u (b ∷ bs) l = stays-legal (takes u b) bs (byte-legal u b l)
 
 stays-now : (u : Unit) (sent : List ℕ) → after u sent .settings current ≡ u .settings current
-unfolding after
+unfolding readerBy
 stays-now u [] = refl
 stays-now u (b ∷ bs) = stays-now (takes u b) bs ∙ byte-now u b
 
 all-bytes : (u : Unit) (sent : List ℕ) → Legal (u .profile) (u .settings) → Bytes (u .taken) → Bytes sent → Bytes (replies u sent)
-unfolding replies
+unfolding answersBy inOrder
 all-bytes u [] l t h = tt
 all-bytes u (b ∷ bs) l t h =
     bytes-append (done u b .answer) (replies (takes u b) bs) (byte-answer u b l t (h .0))

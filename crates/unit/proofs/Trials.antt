@@ -8,7 +8,9 @@ use Rattle.message.specs.Content.{contentOf}
 use Rattle.message.specs.Message.{readOf}
 use Rattle.unit.specs.Unit.{frameDone, after, replies}
 use Rattle.unit.specs.UnitTablePromise.{trials, UnitTablePromise}
+use Rattle.streams.specs.Stream.{answersBy, readerBy}
+use Rattle.lists.specs.InOrder.{inOrder}
 
 pub unit-table-promise : UnitTablePromise
-unfolding trials after replies frameDone frameOf answerTo takenAfter readOf contentOf firstRow table numberOf codeOf plainCodeOf
+unfolding trials readerBy answersBy inOrder frameDone frameOf answerTo takenAfter readOf contentOf firstRow table numberOf codeOf plainCodeOf
 unit-table-promise = record { all = refl; holds = refl }

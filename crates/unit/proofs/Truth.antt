@@ -46,6 +46,11 @@ use Rattle.unit.proofs.Acts.{either, Accepted}
 use Rattle.unit.proofs.Answers.{denied-reads, reads-said, which-cell}
 use Rattle.unit.proofs.Streams.{by-frame, unit-promise}
 use Rattle.tracker.proofs.Frames.{brought-none, brought-one, brought-behind}
+use Rattle.streams.specs.Stream.{answersBy, readerBy}
+use Rattle.lists.specs.InOrder.{inOrder}
+use Rattle.streams.specs.CutPromise.{joined}
+use Rattle.streams.proofs.Cut.{answers-append}
+use Rattle.lists.proofs.InOrder.{in-order-append}
 
 -- answers that stand before others bring what they bring alone
 abbrev Splits : List ℕ → Type 0
@@ -67,14 +72,12 @@ done-splits u b =
     (λ a. splits-frame (zoneIn bytes) (commandIn bytes) 0x00 _))
 
 pub replies-append : (u : Unit) (bs cs : List ℕ) → replies u (bs ++ cs) ≡ replies u bs ++ replies (after u bs) cs
-unfolding replies after
-replies-append u [] cs = refl
-replies-append u (b ∷ bs) cs =
-    ap (λ (xs : List ℕ). done u b .answer ++ xs) (replies-append (takes u b) bs cs)
-    ∙ sym (append-assoc (done u b .answer) (replies (takes u b) bs) (replies (after (takes u b) bs) cs))
+replies-append u bs cs =
+    let answer : Unit → ℕ → List ℕ = λ v b. done v b .answer in
+    ap joined (answers-append takes answer u bs cs) ∙ in-order-append (λ (x : List ℕ). x) (answersBy takes answer u bs) (answersBy takes answer (after u bs) cs)
 
 pub brought-append : (u : Unit) (bs rest : List ℕ) → broughtBy (replies u bs ++ rest) ≡ broughtBy (replies u bs) ++ broughtBy rest
-unfolding replies
+unfolding answersBy inOrder
 brought-append u [] rest = splits-none rest
 brought-append u (b ∷ bs) rest =
     ap broughtBy (append-assoc (done u b .answer) (replies (takes u b) bs) rest)
@@ -193,7 +196,7 @@ module _ (profile : Profile) (s : Settings) (legal : Legal profile s) (t : Track
 -- any bytes
 true-on : (u : Unit) (sent : List ℕ) → Legal (u .profile) (u .settings) → (t : Tracker) → Fit (u .profile) t → True t (u .settings)
     → True (answersFed t (broughtBy (replies u sent))) (after u sent .settings)
-unfolding replies after answersFed
+unfolding answersBy inOrder readerBy answersFed
 true-on u [] legal t fit h = subst (λ (fs : List BroughtAnswer). True (answersFed t fs) (u .settings)) (sym brought-none) h
 true-on u (b ∷ bs) legal t fit h =
     let next = answersFed t (broughtBy (done u b .answer)) in

@@ -101,20 +101,20 @@ applied =
 -- what it says, computed beside it: at the first cut three lines are set and the reader stands inside the fourth's frame; at the end
 -- all are
 pub pulled : map (λ (l : Line). moment start sent 277 .settings (settingOf l)) twelve ≡ 0x02 ∷ 0x01 ∷ 0x02 ∷ replicate 9 0x00
-unfolding runOf inOrder after frameDone frameOf answerTo takenAfter readerBy readOf contentOf firstRow table numberOf codeOf plainCodeOf
+unfolding runOf inOrder readerBy frameDone frameOf answerTo takenAfter readOf contentOf firstRow table numberOf codeOf plainCodeOf
 pulled = refl
 
 pub pulled-inside : moment start sent 277 .taken ≡ 0x21 ∷ 0x01 ∷ 0x39 ∷ []
-unfolding runOf inOrder after frameDone frameOf answerTo takenAfter readerBy readOf contentOf firstRow table numberOf codeOf plainCodeOf
+unfolding runOf inOrder readerBy frameDone frameOf answerTo takenAfter readOf contentOf firstRow table numberOf codeOf plainCodeOf
 pulled-inside = refl
 
 -- the second sending, cut too, has added nothing by then
 pub pulled-again : map (λ (l : Line). moment start sent 377 .settings (settingOf l)) twelve ≡ 0x02 ∷ 0x01 ∷ 0x02 ∷ replicate 9 0x00
-unfolding runOf inOrder after frameDone frameOf answerTo takenAfter readerBy readOf contentOf firstRow table numberOf codeOf plainCodeOf
+unfolding runOf inOrder readerBy frameDone frameOf answerTo takenAfter readOf contentOf firstRow table numberOf codeOf plainCodeOf
 pulled-again = refl
 
 pub reached : map (λ (l : Line). after start sent .settings (settingOf l)) twelve ≡ map (λ (l : Line). l .value) twelve
-unfolding runOf inOrder after frameDone frameOf answerTo takenAfter readerBy readOf contentOf firstRow table numberOf codeOf plainCodeOf
+unfolding runOf inOrder readerBy frameDone frameOf answerTo takenAfter readOf contentOf firstRow table numberOf codeOf plainCodeOf
 reached = refl
 
 -- settings that are not on the sheet, a row's, an input's and the current input, at every moment
@@ -145,11 +145,11 @@ single = line 1 0x3A 0x05 ∷ []
 
 -- with 254 zeros the line's 21 is taken for data, and its frame is lost; with 255 it falls on the end place
 lost : after stuck (sending 254 single) .settings (value 1 0x3A) ≡ 0x00
-unfolding inOrder after frameDone frameOf answerTo takenAfter readerBy readOf contentOf firstRow table numberOf codeOf plainCodeOf
+unfolding inOrder readerBy frameDone frameOf answerTo takenAfter readOf contentOf firstRow table numberOf codeOf plainCodeOf
 lost = refl
 
 pub found : after stuck (sending 255 single) .settings (value 1 0x3A) ≡ 0x05
-unfolding inOrder after frameDone frameOf answerTo takenAfter readerBy readOf contentOf firstRow table numberOf codeOf plainCodeOf
+unfolding inOrder readerBy frameDone frameOf answerTo takenAfter readOf contentOf firstRow table numberOf codeOf plainCodeOf
 found = refl
 
 single-legal : isLegal A (line 1 0x3A 0x05) ≡ true

@@ -4,6 +4,8 @@ use mathlib.Core.Path.{_≡_}
 use mathlib.Core.Bool.{Bool, true, false, cond, _&&_}
 use mathlib.Core.List.{List, [], _∷_, _++_}
 use lib.Dec.{eqb}
+use Rattle.streams.specs.Stream.{answersBy, readerBy}
+use Rattle.streams.specs.CutPromise.{joined}
 use Rattle.frame.specs.Frame.{frameOf}
 use Rattle.frame.specs.Reader.{answerTo, takenAfter}
 use Rattle.fields.specs.Fields.{fieldsIn, dataIn}
@@ -138,10 +140,8 @@ abbrev pub takes : Unit → ℕ → Unit
 takes u b = record { profile = u .profile; taken = takenAfter Command (u .taken) b; settings = done u b .settings }
 
 -- bytes sent one after another: the unit after them, and the bytes of its answers
-unfoldable pub after : Unit → List ℕ → Unit
-after u [] = u
-after u (b ∷ bs) = after (takes u b) bs
+abbrev pub after : Unit → List ℕ → Unit
+after u bytes = readerBy takes u bytes
 
-unfoldable pub replies : Unit → List ℕ → List ℕ
-replies u [] = []
-replies u (b ∷ bs) = done u b .answer ++ replies (takes u b) bs
+abbrev pub replies : Unit → List ℕ → List ℕ
+replies u bytes = joined (answersBy takes (λ (v : Unit) (b : ℕ). done v b .answer) u bytes)
