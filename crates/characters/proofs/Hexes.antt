@@ -1,16 +1,15 @@
 -- Hex digits and their values.
 use mathlib.Core.Path.{_≡_, refl, sym, ap, _∙_}
 use mathlib.Core.Bool.{Bool, true, false, cond, _||_}
-use Prim.Native.Nat.{ℕ, _+_, _-_, _*_, _/_, _%_, _≤_, _<_}
+use Prim.Native.Nat.{ℕ, _+_, _-_, _/_, _%_, _≤_, _<_}
 use native.Mathlib.Omega.{arith}
 use borrow.Author.Tests.{lt-ltb, le-ltb, ltb-true, ltb-false}
 use lib.Dec.{ltb}
 use Rattle.characters.specs.Class.{isFrom, isDigit, isHexDigit}
 use Rattle.characters.specs.Hex.{hexValue, hexDigit, hexCount, hexRead}
 use Rattle.characters.specs.HexPromise.{HexPromise}
-use Rattle.characters.specs.declared.hex.HexValue.{HexValue}
 use Rattle.characters.specs.declared.hex.HexValue.the-variants.{Value, NotHex}
-use Rattle.characters.proofs.Classes.{within, below, above, bounds}
+use Rattle.characters.proofs.Classes.{within, above, bounds}
 
 module _ (b : ℕ) where
   pub value-digit : isDigit b ≡ true → hexValue b ≡ Value (b - 0x30)

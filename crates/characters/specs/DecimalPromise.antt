@@ -2,7 +2,7 @@
 -- it leaves is lent's `WritePromise`, as of any bytes: proofs/Written.antt says so of each kind of text.
 use mathlib.Core.Path.{_≡_}
 use mathlib.Core.Bool.{true}
-use mathlib.Core.List.{List, [], _∷_}
+use mathlib.Core.List.{[], _∷_}
 use Prim.Native.Nat.{ℕ, _<_}
 use lib.ListN.{length, getD}
 use Rattle.lists.specs.Each.{Each}

@@ -41,7 +41,9 @@ pub(crate) fn operate(operation: usize, space: &[u8], ends: [usize; 14], count: 
         return;
     }
     match frame::direction::direction_of(byte(space, ends, 1)) {
-        NamedDirection::Direction(direction) => { directed(operation, direction, space, ends, count) }
+        NamedDirection::Direction(direction) => {
+            directed(operation, direction, space, ends, count)
+        }
         NamedDirection::Refused(number) => say_refused(number),
     }
 }

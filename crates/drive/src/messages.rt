@@ -43,7 +43,9 @@ pub(crate) fn operate(operation: usize, space: &[u8], ends: [usize; 14]) {
         return;
     }
     match row::profile::profile_of(byte(space, ends, 1)) {
-        row::profile::NamedProfile::Profile(profile) => { profiled(operation, profile, space, ends) }
+        row::profile::NamedProfile::Profile(profile) => {
+            profiled(operation, profile, space, ends)
+        }
         row::profile::NamedProfile::Refused(number) => say_refused(number)
     }
 }

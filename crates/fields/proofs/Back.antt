@@ -1,20 +1,19 @@
 -- A raw frame that is written reads back, and a frame that is read is its own bytes again.
 use mathlib.Core.Path.{_≡_, refl, ap, sym, _∙_}
-use mathlib.Core.Bool.{Bool, true, false, _||_, cond}
+use mathlib.Core.Bool.{Bool, true, false}
 use mathlib.Core.List.{List, [], _∷_, _++_, append-assoc}
 use Prim.Native.Nat.{ℕ, _+_, _-_, _≤_, _<_}
 use native.Mathlib.Nat.{add-zero}
 use native.Mathlib.Omega.{arith}
-use borrow.Author.Tests.{le-leb, eqb-true, leb-true, leb-false, ltb-false}
-use lib.Dec.{eqb, ltb, leb}
+use borrow.Author.Tests.{le-leb, eqb-true, leb-true, leb-false}
+use lib.Dec.{eqb, leb}
 use lib.ListN.{length, take, drop, getD, replicate, length-drop}
 use lib.Seq.{drop-at, getD-take, getD-drop, length-take-le}
 use Rattle.frame.specs.Frame.{opens, ends, dataLimit, header, frameLength, frameOf, dl}
 use Rattle.frame.specs.Reader.{takenAfter, answers, takenBy}
 use Rattle.frame.specs.Capture.{kindNumber, event, eventsFrom, firstOf}
 use Rattle.fields.specs.Fields.{isFrame, fieldsIn, dataIn}
-use Rattle.lent.specs.Placed.{bytesAt, lastBytes}
-use Rattle.lent.specs.Placed.{placed}
+use Rattle.lent.specs.Placed.{bytesAt, lastBytes, placed}
 use Rattle.fields.specs.Raw.{rawRules}
 use Rattle.lent.specs.Written.{writeAnswered, writeLeft}
 use Rattle.lent.proofs.Writes.{write-promise}

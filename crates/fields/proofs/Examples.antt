@@ -4,11 +4,11 @@ use mathlib.Core.List.{List, [], _∷_}
 use Prim.Native.Nat.{ℕ}
 use lib.ListN.{replicate}
 use Rattle.frame.specs.Frame.{frameOf}
-use Rattle.frame.specs.Reader.{answerTo, takenAfter, answers, takenBy}
-use Rattle.frame.specs.KeptReader.{fedAt, answersOf, readerAfter, freshReader, nextReader, byteAnswer}
+use Rattle.frame.specs.Reader.{answerTo, takenAfter}
+use Rattle.frame.specs.KeptReader.{fedAt, answersOf, freshReader, nextReader, byteAnswer}
 use Rattle.streams.specs.CutPromise.{answersInParts}
 use Rattle.frame.specs.PartPromise.{fedInParts}
-use Rattle.frame.specs.Capture.{settled, labels, count, event, eventsTold, eventsFrom, countedOf}
+use Rattle.frame.specs.Capture.{labels, count, event, eventsTold, eventsFrom, countedOf}
 use Rattle.fields.specs.Fields.{isFrame, fieldsOf, dataOf}
 use Rattle.fields.specs.Raw.{rawRules}
 use Rattle.lent.specs.Written.{lacksRoom, writeAnswered, writeLeft}

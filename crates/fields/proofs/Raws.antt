@@ -1,6 +1,6 @@
 -- A raw write, where its data are not too long.
 use mathlib.Core.Path.{_≡_}
-use mathlib.Core.List.{List, [], _∷_}
+use mathlib.Core.List.{List, []}
 use Prim.Native.Nat.{ℕ, _+_, _≤_}
 use borrow.Author.Tests.{le-ltb}
 use lib.ListN.{length}

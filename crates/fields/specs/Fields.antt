@@ -1,8 +1,8 @@
 -- Document 01, 'Refusal numbers': "the zone, command, answer code and data that a frame brings".
-use Prim.Native.Nat.{ℕ, _+_, _-_}
+use Prim.Native.Nat.{ℕ, _-_}
 use mathlib.Core.Bool.{Bool, _&&_, cond}
 use mathlib.Core.List.{List, []}
-use lib.Dec.{eqb, leb}
+use lib.Dec.{eqb}
 use lib.ListN.{length, getD, take, drop}
 use Rattle.frame.specs.Frame.{opens, ends, header, frameLength, dl}
 use Rattle.frame.specs.declared.direction.Direction.{Direction}

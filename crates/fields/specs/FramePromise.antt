@@ -9,8 +9,7 @@ use Rattle.frame.specs.Frame.{dataLimit, dl, header, frameLength, frameOf}
 use Rattle.frame.specs.Reader.{answerTo, answers, takenBy}
 use Rattle.frame.specs.Capture.{event, eventsFrom, firstOf}
 use Rattle.fields.specs.Fields.{isFrame, answerKept, fieldsIn, dataIn, fieldsOf, dataOf}
-use Rattle.lent.specs.Placed.{bytesAt, lastBytes}
-use Rattle.lent.specs.Placed.{placed}
+use Rattle.lent.specs.Placed.{bytesAt, lastBytes, placed}
 use Rattle.fields.specs.Raw.{rawRules}
 use Rattle.lent.specs.Written.{writeAnswered, writeLeft}
 use Rattle.frame.specs.declared.direction.Direction.{Direction}

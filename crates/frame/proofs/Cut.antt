@@ -1,6 +1,6 @@
 -- Parts of a stream, one after another, and the totals of the whole.
 use mathlib.Core.Path.{_≡_, refl, ap, sym, _∙_}
-use mathlib.Core.List.{List, [], _∷_, _++_, append-assoc}
+use mathlib.Core.List.{List, [], _∷_, _++_}
 use Prim.Native.Nat.{ℕ, _+_}
 use native.Mathlib.Nat.{add-zero, zero-add}
 use lib.Dec.{eqb}
@@ -22,7 +22,6 @@ use Rattle.frame.specs.declared.capture.Kind.{Kind}
 use Rattle.frame.specs.declared.capture.Kind.the-variants.{Frame, Broken, Noise, Pending}
 use Rattle.frame.proofs.Labels.{count-append, count-replicate}
 use Rattle.frame.proofs.Means.{reader-promise}
-use Rattle.streams.specs.Stream.{answersBy, readerBy}
 use Rattle.lists.specs.InOrder.{inOrder}
 
 settled-append : (as′ bs : List ByteAnswer) → settled (as′ ++ bs) ≡ settled as′ ++ settled bs

@@ -2,7 +2,7 @@
 -- the same rule (ReaderPromise). The host may have spoilt its fields: it answers for each value of them, and a place past
 -- the end place, where no stream leads, counts as the end place.
 use Prim.Native.Nat.{ℕ, _+_}
-use mathlib.Core.List.{List, [], _∷_}
+use mathlib.Core.List.{List}
 use lib.Dec.{eqb, ltb}
 use lib.ListN.{length}
 use mathlib.Core.Bool.{cond}

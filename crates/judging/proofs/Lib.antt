@@ -1,2 +1,3 @@
 -- Proofs about the rules of the refusals.
 pub mod Judges
+pub mod OneAnswer

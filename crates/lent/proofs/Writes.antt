@@ -2,7 +2,7 @@
 use mathlib.Core.Path.{_≡_, refl, sym, ap, _∙_}
 use mathlib.Core.Bool.{Bool, true, false}
 use mathlib.Core.List.{List, [], _∷_, _++_}
-use Prim.Native.Nat.{ℕ, _+_, _-_, _≤_, _<_}
+use Prim.Native.Nat.{ℕ, _+_, _-_, _≤_}
 use native.Mathlib.Omega.{arith}
 use lib.ListN.{length, take, drop}
 use Rattle.refusals.specs.Rule.{Rule, ruled}
@@ -12,7 +12,6 @@ use Rattle.refusals.proofs.Rules.{rule-promise}
 use Rattle.lent.specs.Placed.{placed}
 use Rattle.lent.specs.Written.{lacksRoom, noRoom, writeAnswered, writeLeft, writtenNumber, writtenCount}
 use Rattle.lent.specs.WritePromise.{WritePromise}
-use Rattle.lent.specs.declared.written.Written.{Written}
 use Rattle.lent.specs.declared.written.Written.the-variants.{Bytes, Refused}
 use Rattle.lent.proofs.Placed.{placed-length, placed-there, placed-before, placed-after}
 use Rattle.lent.proofs.Room.{past-end, too-few, fits, room-within}

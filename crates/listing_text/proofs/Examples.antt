@@ -2,8 +2,8 @@
 use mathlib.Core.Path.{_≡_, refl}
 use mathlib.Core.List.{List, [], _∷_, _++_}
 use Prim.Native.Nat.{ℕ}
-use Rattle.frame.specs.Reader.{answerTo, takenAfter, answers, takenBy}
-use Rattle.frame.specs.Capture.{settled, labels, count, eventsTold, eventsFrom}
+use Rattle.frame.specs.Reader.{answerTo, takenAfter}
+use Rattle.frame.specs.Capture.{labels, count, eventsTold, eventsFrom}
 use Rattle.frame.specs.Letter.{directionOf}
 use Rattle.fields.specs.Fields.{isFrame}
 use Rattle.lent.specs.Placed.{bytesAt}

@@ -23,7 +23,11 @@ pub fn what_is_asked(input: &[u8]) -> Asked
         return Asked::Refused(12);
     }
     match profile_of(input[0]) {
-        row::profile::NamedProfile::Profile(profile) => asked_of(profile, input[1], input.len() - 2),
+        row::profile::NamedProfile::Profile(profile) => asked_of(
+            profile,
+            input[1],
+            input.len() - 2,
+        ),
         row::profile::NamedProfile::Refused(number) => Asked::Refused(number),
     }
 }

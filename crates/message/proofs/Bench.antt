@@ -1,6 +1,6 @@
 -- The bench frames, computed from the definitions.
 use mathlib.Core.Path.{refl}
-use Rattle.frame.specs.Reader.{answerTo, takenAfter, answers, takenBy}
+use Rattle.frame.specs.Reader.{answerTo, takenAfter}
 use Rattle.frame.specs.Capture.{eventsTold, eventsFrom}
 use Rattle.fields.specs.Fields.{isFrame}
 use Rattle.lent.specs.Placed.{bytesAt}

@@ -1,23 +1,19 @@
 -- A message that is written reads back as itself, and a frame that reads as a message is written back to the same bytes.
 use mathlib.Core.Path.{_≡_, refl, ap, sym, _∙_, subst}
 use mathlib.Core.Bool.{Bool, true, false, cond, not, _||_, or-true}
-use mathlib.Core.List.{List, [], _∷_, _++_}
+use mathlib.Core.List.{List, [], _∷_}
 use Prim.Native.Nat.{ℕ, _+_, _-_, _≤_}
 use native.Mathlib.Omega.{arith}
-use borrow.Author.Tests.{ltb-false, le-ltb, not-false, eqb-true}
-use lib.Dec.{eqb, ltb}
+use borrow.Author.Tests.{not-false, eqb-true}
+use lib.Dec.{eqb}
 use lib.ListN.{length}
 use Rattle.refusals.specs.Rule.{Rule, rule}
 use Rattle.frame.specs.Frame.{frameOf}
 use Rattle.lent.specs.Placed.{placed}
 use Rattle.fields.specs.Raw.{tooLong}
 use Rattle.fields.specs.Fields.{isFrame, fieldsIn, dataIn, dataOf, answerKept}
-use Rattle.lent.specs.Placed.{bytesAt}
-use Rattle.frame.specs.Capture.{event, eventsFrom, firstOf}
 use Rattle.frame.specs.declared.direction.Direction.{Direction}
 use Rattle.fields.specs.declared.fields.Fields.{Fields}
-use Rattle.frame.specs.declared.capture.Kind.the-variants as kind
-use Rattle.frame.specs.declared.capture.Next.the-variants as next
 use Rattle.frame.specs.declared.direction.Direction.the-variants.{Command, Answer}
 use Rattle.lent.specs.declared.written.Written.the-variants as written
 use Rattle.refusals.proofs.Ruled.{refuses, was-accepted, accepted-by, pass-first, pass-both}
@@ -39,7 +35,6 @@ use Rattle.message.specs.Numbers.{Paper, messagePaper}
 use Rattle.message.specs.MessageRefusalPromise.{codeOn}
 use Rattle.message.specs.MessagePromise.{ReadsAs, ReadsBack, MessagePromise}
 use Rattle.message.specs.declared.content.Content.{Content}
-use Rattle.message.specs.declared.read.Denial.{Denial}
 use Rattle.message.specs.declared.read.Message.{Message}
 use Rattle.message.specs.declared.read.Message.the-variants as message
 use Rattle.message.specs.declared.read.Reading.{Reading}

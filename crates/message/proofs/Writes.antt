@@ -4,11 +4,11 @@ use mathlib.Core.Bool.{Bool, true, false, cond, not, _&&_}
 use mathlib.Core.List.{List, [], _∷_, _++_}
 use Prim.Native.Nat.{ℕ, _+_, _≤_}
 use native.Mathlib.Omega.{arith}
-use borrow.Author.Tests.{le-ltb, ltb-false, eqb-true}
+use borrow.Author.Tests.{ltb-false, eqb-true}
 use lib.Dec.{eqb}
 use lib.ListN.{length}
 use Rattle.refusals.specs.Rule.{Rule, rule, ruled}
-use Rattle.lent.specs.Written.{noRoom}
+use Rattle.lent.specs.Written.{noRoom, writeAnswered, writeLeft}
 use Rattle.frame.specs.Frame.{dataLimit, frameOf}
 use Rattle.lent.specs.Placed.{placed}
 use Rattle.fields.specs.Raw.{tooLong, rawRules}
@@ -24,7 +24,6 @@ use Rattle.judging.specs.Judge.{hasOneByte, hasLength, wrongLength, judgeRules,
 use Rattle.message.specs.Content.{encodedOf, encodedData, sizeOf, isForm}
 use Rattle.message.specs.Message.{isDenial, wrongCode, readRules, readOf}
 use Rattle.message.specs.Write.{saidRules, saidIn, saidData}
-use Rattle.lent.specs.Written.{writeAnswered, writeLeft}
 use Rattle.message.specs.declared.content.Content.{Content}
 use Rattle.message.specs.declared.content.Encoded.{Encoded}
 use Rattle.message.specs.declared.content.Encoded.the-variants.{One, Two, NoCode}

@@ -1,3 +1,4 @@
 pub mod Rows
 mod Ranges
 pub mod Inverse
+pub mod OneAnswer

@@ -8,7 +8,7 @@ use native.Mathlib.Omega.{arith}
 use borrow.Author.Tests.{lt-ltb, le-ltb}
 use lib.ListN.{length, take, drop, getD, replicate, length-append, length-replicate, drop-of-length-le}
 use lib.Seq.{take-suc, take-append-le, length-take-le}
-use Rattle.refusals.specs.Rule.{Rule, rule, ruled}
+use Rattle.refusals.specs.Rule.{rule, ruled}
 use Rattle.row.specs.declared.profile.Profile.{Profile}
 use Rattle.sheet.specs.Line.{isLegal, isRepeated}
 use Rattle.sheet.specs.Sheet.{sheetLimit, noLine, firstLines, linesOf}

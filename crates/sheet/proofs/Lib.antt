@@ -1,3 +1,4 @@
 pub mod Repeats
 pub mod Faults
 pub mod Sheets
+pub mod OneAnswer

@@ -6,31 +6,12 @@ use Rattle.refusals.specs.OneAnswer.{OneAnswer}
 use Rattle.refusals.proofs.One.{one, one-lent}
 use Rattle.row.specs.Profile.{profileOf}
 use Rattle.row.specs.declared.profile.Profile.{Profile}
-use Rattle.row.specs.declared.table.Row.{Row}
-use Rattle.sheet.specs.Line.{isSheetValue, isLegal}
-use Rattle.sheet.specs.Sheet.{noLines, withLine, linesOf}
-use Rattle.sheet.specs.Check.{sheetVerdict}
+use Rattle.sheet.specs.Sheet.{linesOf}
 use Rattle.sheetfile.specs.File.{fileRead, fileReadBy}
 use Rattle.sheetfile.specs.Written.{fileAnswered, fileLeft, runAnswered, runLeft}
 use Rattle.sheetfile.specs.ByLetter.{fileVerdictBy, copyAnswered, copyLeft, fileRunAnswered, fileRunLeft}
-use Rattle.sheet.specs.declared.line.Line.{Line}
 use Rattle.sheet.specs.declared.sheet.Sheet.{Sheet}
 use Rattle.sheetfile.specs.declared.write.SheetWritten.{SheetWritten}
-
-pub is-legal-one : (profile : Profile) (line : Line) → OneAnswer (λ x. x ≡ isLegal profile line)
-is-legal-one profile line = one (isLegal profile line)
-
-pub is-sheet-value-one : (row : Row) (value : ℕ) → OneAnswer (λ x. x ≡ isSheetValue row value)
-is-sheet-value-one row value = one (isSheetValue row value)
-
-pub no-lines-one : OneAnswer (λ x. x ≡ noLines)
-no-lines-one = one noLines
-
-pub with-line-one : (sheet : Sheet) (line : Line) → OneAnswer (λ x. x ≡ withLine sheet line)
-with-line-one sheet line = one (withLine sheet line)
-
-pub checked-one : (profile : Profile) (sheet : Sheet) → OneAnswer (λ x. x ≡ sheetVerdict profile (linesOf sheet))
-checked-one profile sheet = one (sheetVerdict profile (linesOf sheet))
 
 pub read-file-one : (profile : Profile) (file : List ℕ) → OneAnswer (λ x. x ≡ fileRead profile file)
 read-file-one profile file = one (fileRead profile file)
@@ -42,6 +23,7 @@ pub check-file-one : (letter : ℕ) (file : List ℕ) → OneAnswer (λ x. x ≡
 check-file-one letter file = one (fileVerdictBy (profileOf letter) file)
 
 -- a write: its answer and the buffer after it
+
 pub put-file-one : (buf : List ℕ) (at : ℕ) (profile : Profile) (sheet : Sheet)
     → OneAnswer (λ (x : SheetWritten × List ℕ). (x .0 ≡ fileAnswered profile (linesOf sheet) buf at) × (x .1 ≡ fileLeft profile (linesOf sheet) buf at))
 put-file-one buf at profile sheet = one-lent (fileAnswered profile (linesOf sheet) buf at) (fileLeft profile (linesOf sheet) buf at)

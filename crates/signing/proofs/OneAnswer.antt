@@ -8,25 +8,10 @@ use Rattle.row.specs.Profile.{profileOf}
 use Rattle.row.specs.declared.profile.Profile.{Profile}
 use Rattle.sheet.specs.Sheet.{linesOf}
 use Rattle.sheet.specs.declared.sheet.Sheet.{Sheet}
-use Rattle.tracker.specs.Tracker.{freshTracker, keptIn}
-use Rattle.tracker.specs.Feed.{answerFed}
 use Rattle.signing.specs.Sign.{signOff}
-use Rattle.tracker.specs.Capture.{captureFed}
 use Rattle.signing.specs.Capture.{captureSigned}
 use Rattle.signing.specs.ByLetter.{fileSignedBy, captureCellBy}
 use Rattle.tracker.specs.declared.tracker.Tracker.{Tracker}
-
-pub new-tracker-one : (profile : Profile) → OneAnswer (λ x. x ≡ freshTracker profile)
-new-tracker-one profile = one (freshTracker profile)
-
-pub kept-in-one : (tracker : Tracker) (zone command : ℕ) → OneAnswer (λ x. x ≡ keptIn tracker zone command)
-kept-in-one tracker zone command = one (keptIn tracker zone command)
-
-pub after-answer-one : (tracker : Tracker) (zone command answer : ℕ) (body : List ℕ) → OneAnswer (λ x. x ≡ answerFed tracker zone command answer body)
-after-answer-one tracker zone command answer body = one (answerFed tracker zone command answer body)
-
-pub after-capture-one : (tracker : Tracker) (capture : List ℕ) → OneAnswer (λ x. x ≡ captureFed tracker capture)
-after-capture-one tracker capture = one (captureFed tracker capture)
 
 pub sign-sheet-one : (tracker : Tracker) (sheet : Sheet) → OneAnswer (λ x. x ≡ signOff tracker (linesOf sheet))
 sign-sheet-one tracker sheet = one (signOff tracker (linesOf sheet))

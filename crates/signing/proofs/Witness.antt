@@ -3,7 +3,7 @@ use mathlib.Core.Path.{_≡_, refl}
 use mathlib.Core.List.{List, [], _∷_, _++_}
 use Prim.Native.Nat.{ℕ}
 use Rattle.lists.specs.InOrder.{inOrder}
-use Rattle.frame.specs.Reader.{answerTo, takenAfter, answers, takenBy}
+use Rattle.frame.specs.Reader.{answerTo, takenAfter}
 use Rattle.frame.specs.Capture.{eventsTold, eventsFrom}
 use Rattle.fields.specs.Fields.{isFrame}
 use Rattle.lent.specs.Placed.{bytesAt}

@@ -5,3 +5,4 @@ pub mod Feeds
 pub mod History
 pub mod Captures
 pub mod Frames
+pub mod OneAnswer

@@ -34,7 +34,6 @@ use Rattle.unit.specs.House.{valueAfter}
 use Rattle.unit.specs.Unit.{Setting, value, input, current, Settings, put, about, shown, Done, refusalCode, acted, zoneIn, commandIn, heard, frameDone}
 use Rattle.lists.proofs.Each.{each-append}
 use Rattle.unit.specs.Legal.{Legal}
-use Rattle.lists.specs.Each.{Each}
 use Rattle.unit.specs.Sending.{Bytes}
 use Rattle.unit.specs.UnitPromise.{Told, Denied, DonePromise}
 use Rattle.unit.proofs.Cells.{cell-self}

@@ -14,7 +14,7 @@ use Rattle.message.specs.declared.read.Said.{Said}
 use Rattle.message.specs.declared.read.Message.the-variants as message
 use Rattle.message.specs.declared.read.Reading.the-variants as reading
 use Rattle.unit.specs.House.{valueAfter}
-use Rattle.unit.specs.Unit.{Setting, value, input, current, Settings, put, Unit, shown, about, Done, actedIn, doneBy, byteDone, zoneIn, commandIn, heard, frameDone, replies}
+use Rattle.unit.specs.Unit.{Setting, value, input, current, Settings, put, Unit, shown, about, Done, actedIn, doneBy, byteDone, zoneIn, commandIn, heard, frameDone}
 use Rattle.unit.specs.UnitPromise.{ActPromise, BytePromise}
 use Rattle.unit.proofs.Cells.{cell-self, put-same}
 use Rattle.streams.specs.Stream.{answersBy}

@@ -6,7 +6,7 @@ use Rattle.row.specs.Table.{table, firstRow}
 use Rattle.row.specs.Signed.{numberOf, codeOf, plainCodeOf}
 use Rattle.message.specs.Content.{contentOf}
 use Rattle.message.specs.Message.{readOf}
-use Rattle.unit.specs.Unit.{frameDone, after, replies}
+use Rattle.unit.specs.Unit.{frameDone}
 use Rattle.unit.specs.UnitTablePromise.{trials, UnitTablePromise}
 use Rattle.streams.specs.Stream.{answersBy, readerBy}
 use Rattle.lists.specs.InOrder.{inOrder}

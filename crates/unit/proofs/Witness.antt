@@ -6,9 +6,9 @@ use mathlib.Core.List.{List, [], _∷_, map}
 use Prim.Native.Nat.{ℕ}
 use native.Mathlib.Omega.{arith}
 use lib.Dec.{eqb}
-use lib.ListN.{take, replicate}
+use lib.ListN.{replicate}
 use Rattle.frame.specs.Frame.{frameOf}
-use Rattle.frame.specs.Reader.{answerTo, takenAfter, takenBy}
+use Rattle.frame.specs.Reader.{answerTo, takenAfter}
 use Rattle.row.specs.Signed.{numberOf, codeOf, plainCodeOf}
 use Rattle.row.specs.Table.{table, firstRow}
 use Rattle.row.specs.declared.profile.Profile.{Profile}

@@ -2,7 +2,7 @@
 -- and zone (S 0F: a value per input and a current input ..)": any of them may be held, whatever the other cells hold.
 use Prim.Native.Nat.{ℕ}
 use mathlib.Core.Path.{_≡_}
-use mathlib.Core.Bool.{true, false}
+use mathlib.Core.Bool.{true}
 use Rattle.row.specs.declared.profile.Profile.{Profile}
 use Rattle.row.specs.declared.table.Row.{Row}
 use Rattle.judging.specs.Judge.{isAnswer, isPair}

@@ -1,5 +1,5 @@
 -- The test, and then the copy.
-use mathlib.Core.Path.{_≡_, refl, sym, _∙_}
+use mathlib.Core.Path.{sym, _∙_}
 use mathlib.Core.List.{[], append-assoc}
 use Prim.Native.Nat.{_+_}
 use borrow.Author.Needs.{needs}

@@ -1,8 +1,7 @@
 -- `text::listing::list_refusal` meets its contract.
 use mathlib.Core.Path.{refl}
 use Rattle.characters.specs.Letters.{letters}
-use Rattle.listing_text.specs.Listing.{textLine}
-use Rattle.listing_text.specs.Listing.{refusedText}
+use Rattle.listing_text.specs.Listing.{textLine, refusedText}
 use Rattle.listing_pieces.specs.Pieces.{filled}
 use Rattle.listing_pieces.specs.declared.piece.Place.the-variants as place
 use Rattle.listing_pieces.proofs.Puts.{both}

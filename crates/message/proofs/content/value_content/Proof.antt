@@ -1,10 +1,9 @@
 -- `message::content::value_content` meets its contract.
-use borrow.Author.Needs.{sfits-of}
+use borrow.Author.Needs.{sfits-of, needs}
 use native.Mathlib.Omega.{arith}
 use mir.Syntax.{w16}
 use mir.Facts.{toZ-pos, toZ-ofZ}
 use mathlib.Core.Path.{sym, _∙_}
-use borrow.Author.Needs.{needs}
 use Rattle.message.proofs.content.value_content.Statement.{statement}
 use Rattle.message.proofs.content.value_content.Tie as tie
 

@@ -1,9 +1,8 @@
 -- `message::read::denied_data` meets its contract.
-use mathlib.Core.Path.{ap}
+use mathlib.Core.Path.{ap, sym, _∙_}
 use Rattle.fields.specs.Fields.{dataOf}
 use Rattle.message.specs.Message.{frameRead}
 use Rattle.message.specs.Computed.{isDenied}
-use mathlib.Core.Path.{sym, _∙_}
 use borrow.Author.Tests.{not-true, not-false}
 use Rattle.message.proofs.Readings.{denied-some, denied-none}
 use borrow.Author.Needs.{needs}

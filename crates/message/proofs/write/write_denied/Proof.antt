@@ -1,6 +1,5 @@
 -- `message::write::write_denied` meets its contract.
 use Rattle.lent.specs.Written.{writeAnswered, writeLeft}
-use mathlib.Core.Path.{_∙_}
 use borrow.Author.Tests.{le-leb, lt-leb}
 use native.Mathlib.Omega.{arith}
 use Prim.Native.Nat.{_≤_}

@@ -1,6 +1,5 @@
 -- A hex digit's value, or 16.
 use mathlib.Core.Path.{sym, ap, _∙_}
-use Prim.Native.Nat.{ℕ}
 use borrow.Author.Needs.{needs}
 use Rattle.characters.specs.Hex.{hexValue}
 use Rattle.words.specs.Arguments.{digitIn}

@@ -5,8 +5,6 @@ use lib.ListN.{drop}
 use Rattle.words.proofs.Laws.{number-more, number-end}
 use borrow.Author.Needs.{needs}
 use Rattle.words.specs.Arguments.{argumentNumber}
-use Rattle.words.proofs.Laws.{number-more, number-end}
-use Rattle.words.proofs.Laws.{number-more, number-end}
 use Rattle.words.proofs.arguments.number_of.Statement.{statement}
 use Rattle.words.proofs.arguments.number_of.Tie as tie
 

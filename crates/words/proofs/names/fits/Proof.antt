@@ -4,7 +4,6 @@ use Prim.Native.Nat.{_-_, _≤_}
 use Rattle.words.proofs.Laws.{settled, unsettled, all-fit}
 use borrow.Author.Needs.{needs}
 use Rattle.words.specs.Names.{fitsIn}
-use Rattle.words.proofs.Laws.{settled, unsettled, all-fit}
 use Rattle.words.proofs.names.fits.Statement.{statement}
 use Rattle.words.proofs.names.fits.Tie as tie
 

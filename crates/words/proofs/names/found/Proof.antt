@@ -7,9 +7,6 @@ use Rattle.words.proofs.Laws.{hit, miss, unfound}
 use borrow.Author.Needs.{needs}
 use Rattle.words.specs.Arguments.{longerBy}
 use Rattle.words.specs.Names.{nameOf, names as table, find}
-use Rattle.words.proofs.Laws.{hit, miss, unfound}
-use Rattle.words.proofs.Laws.{hit, miss, unfound}
-use Rattle.words.proofs.Laws.{hit, miss, unfound}
 use Rattle.words.proofs.names.found.Statement.{statement}
 use Rattle.words.proofs.names.found.Tie as tie
 
