@@ -5,11 +5,8 @@ use Prim.Native.Nat.{ℕ, _+_, _-_, _≤_, _<_}
 use native.Mathlib.Omega.{arith}
 use borrow.Author.Tests.{lt-ltb, le-ltb, ltb-false}
 use lib.Dec.{ltb}
+use Rattle.refusals.proofs.Ruled.{or-false}
 use Rattle.lent.specs.Written.{lacksRoom}
-
-or-false : (s t : Bool) → s || t ≡ false → (s ≡ false) × (t ≡ false)
-or-false true t e = (e, cc)
-or-false false t e = (refl, e)
 
 module _ (long at n : ℕ) where
   pub past-end : long < at → lacksRoom long at n ≡ true

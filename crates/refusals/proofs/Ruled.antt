@@ -1,4 +1,4 @@
--- Lines in their order: whether one refuses, and with which number, whatever is answered.
+-- Rules in their order: whether one refuses, and with which number, whatever is answered.
 use mathlib.Core.Path.{_≡_, refl, sym, _∙_}
 use mathlib.Core.Bool.{Bool, true, false, cond, _||_}
 use mathlib.Core.List.{List, [], _∷_, _++_}
@@ -22,7 +22,7 @@ ruled-is {A} (l ∷ ls) refused accepted = go (l .applies) (ruled-is ls refused 
     go true rest = refl
     go false rest = rest
 
--- lines after lines
+-- rules after rules
 pub ruled-append : {A : Type 0} (ls ms : List Rule) (refused : ℕ → A) (accepted : A) → ruled (ls ++ ms) refused accepted ≡ ruled ls refused (ruled ms refused accepted)
 ruled-append [] ms refused accepted = refl
 ruled-append {A} (l ∷ ls) ms refused accepted = go (l .applies) (ruled-append ls ms refused accepted)
@@ -32,7 +32,7 @@ ruled-append {A} (l ∷ ls) ms refused accepted = go (l .applies) (ruled-append 
     go true rest = refl
     go false rest = rest
 
--- what an answer says of its lines: one that is not the accepted one was refused, and one that is no refusal was accepted
+-- what an answer says of its rules: one that is not the accepted one was refused, and one that is no refusal was accepted
 module _ {A : Type 0} (ls : List Rule) (refused : ℕ → A) (accepted : A) where
   pub was-refused : (x : A) → ruled ls refused accepted ≡ x → (accepted ≡ x → ⊥) → (refuses ls ≡ true) × (refused (firstNumber ls) ≡ x)
   was-refused x e differs = go (refuses ls) (sym (ruled-is ls refused accepted) ∙ e)
@@ -48,15 +48,15 @@ module _ {A : Type 0} (ls : List Rule) (refused : ℕ → A) (accepted : A) wher
       go true f = absurd (differs (firstNumber ls) f)
       go false f = (refl, f)
 
-  -- the same lines, whatever is answered
+  -- the same rules, whatever is answered
   pub refused-with : (n : ℕ) → refuses ls ≡ true → firstNumber ls ≡ n → ruled ls refused accepted ≡ refused n
   refused-with n t e = ruled-is ls refused accepted ∙ rw (t, e)
 
   pub accepted-by : refuses ls ≡ false → ruled ls refused accepted ≡ accepted
   accepted-by t = ruled-is ls refused accepted ∙ rw t
 
--- lines that pass, one by one
-or-false : (s t : Bool) → s || t ≡ false → (s ≡ false) × (t ≡ false)
+-- rules that pass, one by one
+pub or-false : (s t : Bool) → s || t ≡ false → (s ≡ false) × (t ≡ false)
 or-false true t e = (e, cc)
 or-false false t e = (refl, e)
 

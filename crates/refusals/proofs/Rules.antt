@@ -1,4 +1,4 @@
--- The first line that applies refuses; where none applies, what is accepted is answered.
+-- The first rule that applies refuses; where none applies, what is accepted is answered.
 use mathlib.Core.Path.{_≡_, refl}
 use mathlib.Core.Bool.{Bool, true, false}
 use mathlib.Core.List.{List, [], _∷_}

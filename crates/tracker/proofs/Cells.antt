@@ -25,10 +25,7 @@ use Rattle.sheet.specs.Line.{legalIn, isLegal}
 use Rattle.sheet.specs.declared.line.Line.{Line}
 use Rattle.tracker.specs.Cell.{cellCount, cellOf}
 use Rattle.tracker.specs.CellPromise.{HasCell}
-
-neither : (s t : Bool) → s || t ≡ false → (s ≡ false) × (t ≡ false)
-neither true t e = (e, cc)
-neither false t e = (refl, e)
+use Rattle.refusals.proofs.Ruled.{or-false}
 
 three : (profile : Profile) → zonesOf profile ≤ 3
 three A = omega arith
@@ -62,7 +59,7 @@ pub record Stands (profile : Profile) (zone command : ℕ) (row : Row) : Type 0 
 pub stands : (profile : Profile) (zone command : ℕ) (row : Row) → rowJudged profile zone command ≡ judged.Legal row → Stands profile zone command row
 stands profile zone command row e =
     let l = judged-lies profile zone command row e in
-    let zones = neither (eqb zone 0) (ltb (zonesOf profile) zone) (l .within) in
+    let zones = or-false (eqb zone 0) (ltb (zonesOf profile) zone) (l .within) in
     let some = eqb-false zone 0 (zones .0) in
     let most = ltb-false (zonesOf profile) zone (zones .1) in
     record {

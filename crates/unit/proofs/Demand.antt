@@ -14,17 +14,14 @@ use Rattle.unit.specs.Sending.{Apart}
 use Rattle.unit.specs.Demand3.{Demand3}
 use Rattle.lists.proofs.Each.{each-map}
 use Rattle.unit.proofs.Sendings.{sending-promise}
+use Rattle.refusals.proofs.Ruled.{or-false}
 
 -- the lines of an accepted sheet are legal, and no two have the same zone and row
-neither : (s t : Bool) → s || t ≡ false → (s ≡ false) × (t ≡ false)
-neither true t e = (e, cc)
-neither false t e = (refl, e)
-
 repeated-last : (earlier : List Line) (k l : Line) → isRepeated (earlier ++ k ∷ []) l ≡ false → (isRepeated earlier l ≡ false) × (sameCell k l ≡ false)
 unfolding isRepeated
-repeated-last [] k l e = (refl, neither (sameCell k l) false e .0)
+repeated-last [] k l e = (refl, or-false (sameCell k l) false e .0)
 repeated-last (x ∷ earlier) k l e =
-    let (first, rest) = neither (sameCell x l) (isRepeated (earlier ++ k ∷ []) l) e in
+    let (first, rest) = or-false (sameCell x l) (isRepeated (earlier ++ k ∷ []) l) e in
     let (none, other) = repeated-last earlier k l rest in
     (rw (first, none), other)
 

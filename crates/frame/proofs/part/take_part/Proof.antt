@@ -1,4 +1,4 @@
--- `frame::stream::take_part` meets its contract.
+-- `frame::part::take_part` meets its contract.
 use mathlib.Core.Path.{_≡_, sym, _∙_}
 use Prim.Native.Nat.{_+_, _-_, _≤_}
 use native.Mathlib.Nat.{zero-add}

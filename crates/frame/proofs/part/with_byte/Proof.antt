@@ -1,4 +1,4 @@
--- `frame::stream::with_byte` meets its contract.
+-- `frame::part::with_byte` meets its contract.
 use mathlib.Core.Path.{ap, sym, _∙_}
 use native.Mathlib.Nat.{add-zero}
 use native.Mathlib.Omega.{arith}

@@ -1,4 +1,4 @@
--- `host::list::with_lines` meets its contract: a walk of its MIR, by hand, with a loop. Each turn looks into the slice, copies the line out, shuts the slice again, and calls `with_line`.
+-- `host::sheets::with_lines` meets its contract: a walk of its MIR, by hand, with a loop. Each turn looks into the slice, copies the line out, shuts the slice again, and calls `with_line`.
 -- The slice is Copy: what it owns is had twice; one copy is kept whole for the exit, and of the other the fractured borrow is kept for the loop.
 -- Assumes nothing.
 use mathlib.Core.Path.{_≡_, refl, sym, _∙_}

@@ -1,4 +1,4 @@
--- `host::track::read_cell` meets its contract: a walk of its MIR, by hand. The struct is copied out and passed to `kept_in`, whose result is returned.
+-- `host::trackers::read_cell` meets its contract: a walk of its MIR, by hand. The struct is copied out and passed to `kept_in`, whose result is returned.
 -- Assumes nothing.
 use mathlib.Core.Path.{_≡_, refl}
 use Prim.Native.Nat.{ℕ}

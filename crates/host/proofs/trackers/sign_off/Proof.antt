@@ -1,4 +1,4 @@
--- `host::track::sign_off` meets its contract: a walk of its MIR, by hand. The struct is copied out and passed to `sign_lines`, whose result is returned.
+-- `host::trackers::sign_off` meets its contract: a walk of its MIR, by hand. The struct is copied out and passed to `sign_lines`, whose result is returned.
 -- Assumes nothing.
 use mathlib.Core.Path.{_≡_, refl}
 use Prim.Native.Nat.{ℕ}

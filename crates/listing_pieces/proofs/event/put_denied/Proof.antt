@@ -1,4 +1,4 @@
--- `text::event::put_denied` meets its contract.
+-- `listing_pieces::event::put_denied` meets its contract.
 use mathlib.Core.List.{_++_}
 use Rattle.characters.specs.Letters.{letters}
 use Rattle.listing_text.specs.Listing.{textLine}

@@ -1,4 +1,4 @@
--- `text::event::put_event` meets its contract.
+-- `listing_pieces::event::put_event` meets its contract.
 use mathlib.Core.Path.{sym}
 use Rattle.lent.specs.Placed.{bytesAt}
 use Rattle.characters.specs.Letters.{letters}

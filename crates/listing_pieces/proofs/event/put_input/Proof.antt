@@ -1,4 +1,4 @@
--- `text::event::put_input` meets its contract.
+-- `listing_pieces::event::put_input` meets its contract.
 use Rattle.characters.specs.Letters.{letters}
 use Rattle.characters.specs.Decimal.{decimalIn}
 use Rattle.listing_pieces.proofs.Puts.{both}

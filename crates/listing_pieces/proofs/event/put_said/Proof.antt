@@ -1,4 +1,4 @@
--- `text::event::put_said` meets its contract.
+-- `listing_pieces::event::put_said` meets its contract.
 use mathlib.Core.List.{_++_}
 use Rattle.characters.specs.Letters.{letters}
 use Rattle.characters.specs.Decimal.{decimal}

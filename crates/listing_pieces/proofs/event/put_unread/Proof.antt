@@ -1,4 +1,4 @@
--- `text::event::put_unread` meets its contract.
+-- `listing_pieces::event::put_unread` meets its contract.
 use Rattle.characters.specs.Letters.{letters}
 use Rattle.listing_text.specs.Listing.{textLine}
 use Rattle.listing_pieces.proofs.Puts.{both}

@@ -1,4 +1,4 @@
--- `text::event::put_value` meets its contract.
+-- `listing_pieces::event::put_value` meets its contract.
 use native.Mathlib.Omega.{arith}
 use mir.Syntax.{w16}
 use mir.Val.{SFits}

@@ -1,4 +1,4 @@
--- `text::listing::list_lines` meets its contract.
+-- `listing_pieces::piece::list_lines` meets its contract.
 use mathlib.Core.Path.{sym, _∙_}
 use Prim.Native.Nat.{_-_, _≤_, _<_}
 use native.Mathlib.Omega.{arith}

@@ -1,4 +1,4 @@
--- `text::listing::list_piece` meets its contract.
+-- `listing_pieces::piece::list_piece` meets its contract.
 use mathlib.Core.Path.{_≡_, refl, sym, _∙_}
 use mathlib.Core.List.{List}
 use Prim.Native.Nat.{ℕ, _-_}

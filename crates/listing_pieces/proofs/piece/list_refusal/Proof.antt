@@ -1,4 +1,4 @@
--- `text::listing::list_refusal` meets its contract.
+-- `listing_pieces::piece::list_refusal` meets its contract.
 use mathlib.Core.Path.{refl}
 use Rattle.characters.specs.Letters.{letters}
 use Rattle.listing_text.specs.Listing.{textLine, refusedText}

@@ -1,4 +1,4 @@
--- `text::listing::put_counted` meets its contract.
+-- `listing_pieces::piece::put_counted` meets its contract.
 use Rattle.listing_pieces.proofs.Puts.{both}
 use borrow.Author.Needs.{needs}
 use Rattle.listing_pieces.proofs.piece.put_counted.Statement.{statement}

@@ -1,4 +1,4 @@
--- `text::listing::put_from` meets its contract.
+-- `listing_pieces::piece::put_from` meets its contract.
 use mathlib.Core.Path.{refl, sym, _∙_}
 use native.Mathlib.Omega.{arith}
 use Rattle.frame.specs.Capture.{eventsFrom}

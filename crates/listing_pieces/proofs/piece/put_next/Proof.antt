@@ -1,4 +1,4 @@
--- `text::listing::put_next` meets its contract.
+-- `listing_pieces::piece::put_next` meets its contract.
 use mathlib.Core.Path.{refl}
 use native.Mathlib.Omega.{arith}
 use Rattle.characters.specs.Letters.{letters}

@@ -1,4 +1,4 @@
--- `text::listing::put_total_line` meets its contract.
+-- `listing_pieces::piece::put_total_line` meets its contract.
 use native.Mathlib.Omega.{arith}
 use Rattle.characters.specs.Letters.{letters}
 use Rattle.listing_text.specs.Listing.{textLine}

@@ -1,4 +1,4 @@
--- `text::listing::put_totals` meets its contract.
+-- `listing_pieces::piece::put_totals` meets its contract.
 use mathlib.Core.Path.{sym, ap, _∙_}
 use native.Mathlib.Omega.{arith}
 use Rattle.frame.specs.declared.capture.Totals.{Totals}

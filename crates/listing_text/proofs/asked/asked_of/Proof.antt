@@ -1,4 +1,4 @@
--- `listed::asked::asked_of` meets its contract.
+-- `listing_text::asked::asked_of` meets its contract.
 use borrow.Author.Tests.{lt-ltb, le-ltb}
 use borrow.Author.Needs.{needs}
 use Rattle.listing_text.proofs.asked.asked_of.Statement.{statement}

@@ -1,4 +1,4 @@
--- `listed::asked::what_is_asked` meets its contract.
+-- `listing_text::asked::what_is_asked` meets its contract.
 use mathlib.Core.Path.{_∙_}
 use Rattle.listing_text.proofs.Asks.{asked-short, asked-letters}
 use borrow.Author.Needs.{needs}

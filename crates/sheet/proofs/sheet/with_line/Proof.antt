@@ -1,4 +1,4 @@
--- `sheet::lines::with_line` meets its contract.
+-- `sheet::sheet::with_line` meets its contract.
 use borrow.Author.Tests.{le-leb, lt-leb}
 use Rattle.sheet.specs.Sheet.{withLine}
 use borrow.Author.Needs.{needs}

@@ -1,4 +1,4 @@
--- `sheetfile::plain::check_file` meets its contract.
+-- `sheetfile::by_letter::check_file` meets its contract.
 use mathlib.Core.Path.{ap, _∙_}
 use Rattle.row.specs.Profile.{profileOf}
 use Rattle.sheetfile.specs.declared.file.FileRead.{FileRead}

@@ -1,4 +1,4 @@
--- `sheetfile::plain::write_by` meets its contract.
+-- `sheetfile::by_letter::write_by` meets its contract.
 use mathlib.Core.Path.{refl}
 use borrow.Author.Needs.{needs}
 use Rattle.sheetfile.proofs.by_letter.write_by.Statement.{statement}

@@ -1,4 +1,4 @@
--- `sheetfile::plain::write_read` meets its contract.
+-- `sheetfile::by_letter::write_read` meets its contract.
 use mathlib.Core.Path.{sym, ap, _∙_}
 use Rattle.sheet.specs.Sheet.{linesOf}
 use Rattle.sheet.specs.Check.{sheetVerdict}

@@ -1,4 +1,4 @@
--- `signing::plain::cell_in_capture` meets its contract.
+-- `signing::by_letter::cell_in_capture` meets its contract.
 use borrow.Author.Needs.{needs}
 use Rattle.signing.proofs.by_letter.cell_in_capture.Statement.{statement}
 use Rattle.signing.proofs.by_letter.cell_in_capture.Tie as tie

@@ -1,4 +1,4 @@
--- `signing::plain::show` meets its contract.
+-- `signing::by_letter::show` meets its contract.
 use borrow.Author.Needs.{needs}
 use Rattle.signing.proofs.by_letter.show.Statement.{statement}
 use Rattle.signing.proofs.by_letter.show.Tie as tie

@@ -1,4 +1,4 @@
--- `signing::plain::sign_file` meets its contract.
+-- `signing::by_letter::sign_file` meets its contract.
 use borrow.Author.Needs.{needs}
 use Rattle.signing.proofs.by_letter.sign_file.Statement.{statement}
 use Rattle.signing.proofs.by_letter.sign_file.Tie as tie
