@@ -10,7 +10,7 @@ use Rattle.frame.specs.Reader.{answers, takenBy}
 use Rattle.frame.specs.KeptReader.{freshReader, nextReader, byteAnswer, answersOf, readerAfter}
 use Rattle.frame.specs.Capture.{kindNumber, settles, settled, labels, count, partOf}
 use Rattle.frame.specs.PartPromise.{fedInParts, addedUp, PartPromise}
-use Rattle.streams.specs.CutPromise.{joined}
+use Rattle.lists.specs.InOrder.{joined}
 use Rattle.streams.proofs.Cut.{answers-append, reader-append, cut-promise}
 use Rattle.lists.proofs.InOrder.{in-order-append}
 use Rattle.frame.specs.declared.direction.Direction.{Direction}

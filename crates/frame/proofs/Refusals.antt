@@ -3,9 +3,10 @@ use mathlib.Core.Path.{_≡_, refl, ap}
 use mathlib.Core.List.{List}
 use Prim.Native.Nat.{ℕ}
 use native.Mathlib.Omega.{arith}
-use borrow.Author.Tests.{ne-eqb}
+use borrow.Author.Tests.{ne-eqb, lt-ltb, le-ltb}
+use lib.ListN.{length}
 use Rattle.frame.specs.Letter.{directionOf}
-use Rattle.frame.specs.Capture.{countedBy}
+use Rattle.frame.specs.Capture.{captureLimit, countedBy}
 use Rattle.frame.specs.Numbers.{letterNumber, countedNumber, countedTotals, noTotals}
 use Rattle.frame.specs.CaptureRefusalPromise.{CaptureRefusalPromise}
 use Rattle.frame.specs.declared.direction.NamedDirection.{NamedDirection}
@@ -29,6 +30,9 @@ pub capture-refusal-promise : CaptureRefusalPromise
 unfolding directionOf
 capture-refusal-promise = record {
   named = (refl, refl);
+  numbered = (refl, refl);
+  long = λ dir capture h. rw (lt-ltb captureLimit (length capture) h);
+  within = λ dir capture h. rw (le-ltb captureLimit (length capture) h);
   totals = λ letter capture t e. (ap countedNumber e, ap countedTotals e);
   letter = other-letter;
   first = λ l. letter-first (directionOf l);

@@ -84,7 +84,6 @@ partOf r bytes = record {
   noise = count Noise (settled (answersOf r bytes));
 }
 
--- the events that the answers make, the first of them starting at a place; bytes that are left pending are one event more
 abbrev pub event : ℕ → ℕ → Kind → Event
 event at n k = record { at = at; length = n; kind = k }
 
@@ -92,6 +91,7 @@ abbrev pub pendingEvent : ℕ → ℕ → List Event
 pendingEvent at zero = []
 pendingEvent at (suc n) = event at (suc n) Pending ∷ []
 
+-- the events that the answers make, the first of them starting at a place; bytes that are left pending are one event more
 unfoldable pub eventsTold : ℕ → List ByteAnswer → ℕ → List Event
 eventsTold at [] left = pendingEvent at left
 eventsTold at (answer.Waiting ∷ rest) left = eventsTold at rest left

@@ -1,4 +1,4 @@
--- What must be believed: what the rest uses, the frame and its reader, captures; then the promises. `Computed` need not be
+-- What must be believed: the directions' letters, the frame and its reader, captures; then the promises. `Computed` need not be
 -- believed.
 pub mod Letter
 pub mod Frame

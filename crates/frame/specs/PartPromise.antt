@@ -3,7 +3,8 @@
 use mathlib.Core.Path.{_≡_}
 use mathlib.Core.List.{List, [], _∷_}
 use Prim.Native.Nat.{ℕ, _+_}
-use Rattle.streams.specs.CutPromise.{joined, CutPromise}
+use Rattle.lists.specs.InOrder.{joined}
+use Rattle.streams.specs.CutPromise.{CutPromise}
 use Rattle.frame.specs.KeptReader.{freshReader, nextReader, byteAnswer}
 use Rattle.frame.specs.Capture.{partOf, totalsOf}
 use Rattle.frame.specs.declared.direction.Direction.{Direction}

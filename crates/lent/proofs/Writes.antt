@@ -10,7 +10,7 @@ use Rattle.refusals.specs.RulePromise.{NoneApplies}
 use Rattle.refusals.proofs.Ruled.{refuses, firstNumber, ruled-append, refused-with, accepted-by, pass-first, pass-both, pass-append, append-pass}
 use Rattle.refusals.proofs.Rules.{rule-promise}
 use Rattle.lent.specs.Placed.{placed}
-use Rattle.lent.specs.Written.{lacksRoom, noRoom, writeAnswered, writeLeft, writtenNumber, writtenCount}
+use Rattle.lent.specs.Written.{lacksRoom, noRoom, writeAnswered, writeLeft, writtenCount}
 use Rattle.lent.specs.WritePromise.{WritePromise}
 use Rattle.lent.specs.declared.written.Written.the-variants.{Bytes, Refused}
 use Rattle.lent.proofs.Placed.{placed-length, placed-there, placed-before, placed-after}
@@ -56,10 +56,11 @@ module _ (rules : List Rule) (buf : List ℕ) (at : ℕ) (bytes : List ℕ) wher
       go true e = one e
       go false e = none e
 
-  kept : (writtenNumber (writeAnswered rules buf at bytes) ≡ 0 → ⊥)
-      → (writeLeft rules buf at bytes ≡ buf) × (writtenCount (writeAnswered rules buf at bytes) ≡ 0)
-  kept not-zero =
-      by-cases (λ t. (write-refused t .1, ap writtenCount (write-refused t .0))) (λ t. absurd (not-zero (ap writtenNumber (write-done t .0))))
+  done-not : (n : ℕ) → writeAnswered rules buf at bytes ≡ Refused n → refuses all ≡ false → ⊥
+  done-not n e t = let f : Bytes (length bytes) ≡ Refused n = sym (write-done t .0) ∙ e in let z : _≡_ {A = ℕ} 0 1 = cc in omega arith
+
+  kept : (n : ℕ) → writeAnswered rules buf at bytes ≡ Refused n → (writeLeft rules buf at bytes ≡ buf) × (writtenCount (writeAnswered rules buf at bytes) ≡ 0)
+  kept n e = by-cases (λ t. (write-refused t .1, ap writtenCount (write-refused t .0))) (λ t. absurd (done-not n e t))
 
   refused-not : (n : ℕ) → writeAnswered rules buf at bytes ≡ Bytes n → refuses all ≡ true → ⊥
   refused-not n e t = let f : Refused (firstNumber all) ≡ Bytes n = sym (write-refused t .0) ∙ e in let z : _≡_ {A = ℕ} 0 1 = cc in omega arith

@@ -7,7 +7,7 @@ use lib.ListN.{length, take, drop}
 use Rattle.refusals.specs.Rule.{Rule}
 use Rattle.refusals.specs.RulePromise.{FirstApplies, NoneApplies}
 use Rattle.lent.specs.Placed.{placed}
-use Rattle.lent.specs.Written.{noRoom, writeAnswered, writeLeft, writtenNumber, writtenCount}
+use Rattle.lent.specs.Written.{noRoom, writeAnswered, writeLeft, writtenCount}
 use Rattle.lent.specs.declared.written.Written.the-variants.{Bytes, Refused}
 
 pub record WritePromise (rules : List Rule) (buf : List ℕ) (at : ℕ) (bytes : List ℕ) : Type 0 where
@@ -19,8 +19,7 @@ pub record WritePromise (rules : List Rule) (buf : List ℕ) (at : ℕ) (bytes :
   pub few : NoneApplies rules → at ≤ length buf → length buf < at + length bytes → writeAnswered rules buf at bytes ≡ Refused 9
   pub fits : NoneApplies rules → at + length bytes ≤ length buf → writeAnswered rules buf at bytes ≡ Bytes (length bytes)
   -- a refusal leaves the buffer as it was and counts no byte
-  pub kept : (writtenNumber (writeAnswered rules buf at bytes) ≡ 0 → ⊥)
-      → (writeLeft rules buf at bytes ≡ buf) × (writtenCount (writeAnswered rules buf at bytes) ≡ 0)
+  pub kept : (n : ℕ) → writeAnswered rules buf at bytes ≡ Refused n → (writeLeft rules buf at bytes ≡ buf) × (writtenCount (writeAnswered rules buf at bytes) ≡ 0)
   -- what is written stands at its place, within the buffer
   pub there : (n : ℕ) → writeAnswered rules buf at bytes ≡ Bytes n
       → (n ≡ length bytes) × (at + n ≤ length buf) × (writeLeft rules buf at bytes ≡ placed buf at bytes) × (take n (drop at (writeLeft rules buf at bytes)) ≡ bytes)

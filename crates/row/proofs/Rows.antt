@@ -10,14 +10,15 @@ use lib.Dec.{eqb}
 use lib.ListN.{length, drop, getD, drop-of-length-le}
 use lib.Seq.{drop-cons}
 use Rattle.lists.specs.Each.{Each}
-use Rattle.row.specs.Table.{inPlaces, table, rowCount, firstRow}
+use Rattle.row.specs.TablePromise.{TablePromise}
+use Rattle.row.specs.Table.{inPlaces, table, firstRow}
 use Rattle.row.specs.Computed.{rowFrom}
 use Rattle.row.specs.declared.table.Row.{Row}
 use Rattle.row.specs.declared.table.Found.the-variants as found
 
-pub row-count : length table ≡ rowCount
+pub table-promise : TablePromise
 unfolding table
-row-count = refl
+table-promise = record { counted = refl; placed = refl }
 
 -- numbers, as the code has them, write out the table
 pub record WritesOut (ns : List (List ℕ)) : Type 0 where

@@ -3,5 +3,6 @@
 pub mod Profile
 pub mod Table
 pub mod Signed
+pub mod TablePromise
 pub mod SignedCodePromise
 pub mod Computed

@@ -73,7 +73,7 @@ row p code zones set set′ ans ans′ marks place = record {
   sheet = has marks †;
 }
 
--- rows at their places, from one on
+-- rows at their places, from a given one on
 abbrev pub inPlaces : ℕ → List (ℕ → Row) → List Row
 inPlaces place [] = []
 inPlaces place (r ∷ rs) = r place ∷ inPlaces (suc place) rs

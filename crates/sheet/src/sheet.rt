@@ -26,7 +26,7 @@ pub fn no_lines() -> Sheet
     }
 }
 
-// The sheet with one line more; past the limit it only counts.
+// The sheet with one line more; past the limit no line is kept, and the count stands at one more than the limit.
 pub fn with_line(sheet: Sheet, line: Line) -> Sheet
     ensures { λ r. ⌜ r ≡ withLine sheet line ⌝ }
 {

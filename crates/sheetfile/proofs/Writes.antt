@@ -4,7 +4,7 @@ use mathlib.Core.List.{List, []}
 use Prim.Native.Nat.{ℕ, _+_, _*_, _≤_}
 use native.Mathlib.Omega.{arith}
 use lib.ListN.{length, take, drop}
-use Rattle.lent.specs.Written.{writeAnswered, writtenNumber, writtenCount}
+use Rattle.lent.specs.Written.{writeAnswered, writtenCount}
 use Rattle.lent.specs.WritePromise.{WritePromise}
 use Rattle.lent.specs.declared.written.Written.{Written}
 use Rattle.lent.specs.declared.written.Written.the-variants as written
@@ -24,10 +24,6 @@ use Rattle.sheetfile.specs.declared.write.SheetWritten.the-variants.{Byt
 use Rattle.sheetfile.proofs.Filled.{sheet-length}
 use Rattle.sheetfile.proofs.Trips.{trip-read}
 
-as-number : (w : Written) → sheetWrittenNumber (asSheet w) ≡ writtenNumber w
-as-number (written.Bytes n) = refl
-as-number (written.Refused n) = refl
-
 as-count : (w : Written) → sheetWrittenCount (asSheet w) ≡ writtenCount w
 as-count (written.Bytes n) = refl
 as-count (written.Refused n) = refl
@@ -36,16 +32,20 @@ as-bytes : (w : Written) (n : ℕ) → asSheet w ≡ Bytes n → w ≡ written.B
 as-bytes (written.Bytes m) n e = cc
 as-bytes (written.Refused m) n e = cc
 
+as-refused : (w : Written) (n i : ℕ) → asSheet w ≡ Refused n i → w ≡ written.Refused n
+as-refused (written.Bytes m) n i e = cc
+as-refused (written.Refused m) n i e = cc
+
 module _ (buf : List ℕ) (at : ℕ) (bytes : List ℕ) where
   -- an accepted sheet goes by the room
   abbrev wrote-so : WritePromise [] buf at bytes
   wrote-so = write-promise [] buf at bytes
 
-  kept : (v : Verdict) → (sheetWrittenNumber (sheetAnswered v buf at bytes) ≡ 0 → ⊥)
+  kept : (v : Verdict) (n i : ℕ) → sheetAnswered v buf at bytes ≡ Refused n i
       → (sheetLeft v buf at bytes ≡ buf) × (sheetWrittenCount (sheetAnswered v buf at bytes) ≡ 0)
-  kept verdict.Accepted h =
-      let w = wrote-so .kept (λ e. h (as-number (writeAnswered [] buf at bytes) ∙ e)) in (w .0, as-count (writeAnswered [] buf at bytes) ∙ w .1)
-  kept (verdict.Refused n i) h = (refl, refl)
+  kept verdict.Accepted n i e =
+      let w = wrote-so .kept n (as-refused (writeAnswered [] buf at bytes) n i e) in (w .0, as-count (writeAnswered [] buf at bytes) ∙ w .1)
+  kept (verdict.Refused m j) n i e = (refl, refl)
 
   before : (v : Verdict) → take at (sheetLeft v buf at bytes) ≡ take at buf
   before verdict.Accepted = wrote-so .before
@@ -76,8 +76,7 @@ module _ (buf : List ℕ) (at : ℕ) (bytes : List ℕ) where
     checks = λ n i e. rw e;
     past = λ e h. rw e (ap asSheet (wrote-so .past tt h));
     few = λ e h less. rw e (ap asSheet (wrote-so .few tt h less));
-    kept = λ h. kept v h .0;
-    zero = λ h. kept v h .1;
+    kept = kept v;
     said = λ e h. rw e (ap asSheet (wrote-so .fits tt h));
     counted = λ e h.
         rw e (ap (λ (w : Written). sheetWrittenNumber (asSheet w)) (wrote-so .fits tt h), ap (λ (w : Written). sheetWrittenCount (asSheet w)) (wrote-so .fits tt h));

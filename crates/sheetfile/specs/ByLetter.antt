@@ -1,4 +1,4 @@
--- The same of a sheet that comes as the bytes of its sheet file, by the profile's letter: 12 "before all others", then the file's
+-- Document 01, 'Sheet, sheet file and run', of a sheet that comes as the bytes of its sheet file, by the profile's letter: 12 "before all others", then the file's
 -- refusals, and for writing 9.
 use Prim.Native.Nat.{ℕ}
 use mathlib.Core.List.{List}

@@ -20,8 +20,7 @@ pub record WrittenPromise (v : Verdict) (buf : List ℕ) (at : ℕ) (bytes : Lis
   pub checks : (n i : ℕ) → v ≡ verdict.Refused n i → sheetAnswered v buf at bytes ≡ Refused n i
   pub past : v ≡ verdict.Accepted → length buf < at → sheetAnswered v buf at bytes ≡ Refused 9 0
   pub few : v ≡ verdict.Accepted → at ≤ length buf → length buf < at + length bytes → sheetAnswered v buf at bytes ≡ Refused 9 0
-  pub kept : (sheetWrittenNumber (sheetAnswered v buf at bytes) ≡ 0 → ⊥) → sheetLeft v buf at bytes ≡ buf
-  pub zero : (sheetWrittenNumber (sheetAnswered v buf at bytes) ≡ 0 → ⊥) → sheetWrittenCount (sheetAnswered v buf at bytes) ≡ 0
+  pub kept : (n i : ℕ) → sheetAnswered v buf at bytes ≡ Refused n i → (sheetLeft v buf at bytes ≡ buf) × (sheetWrittenCount (sheetAnswered v buf at bytes) ≡ 0)
   pub said : v ≡ verdict.Accepted → at + length bytes ≤ length buf → sheetAnswered v buf at bytes ≡ Bytes (length bytes)
   pub counted : v ≡ verdict.Accepted → at + length bytes ≤ length buf
       → (sheetWrittenNumber (sheetAnswered v buf at bytes) ≡ 0) × (sheetWrittenCount (sheetAnswered v buf at bytes) ≡ length bytes)

@@ -2,9 +2,9 @@
 use mathlib.Core.Path.{_≡_, refl, sym, ap, _∙_}
 use mathlib.Core.List.{List, [], _∷_, _++_}
 use Prim.Native.Nat.{ℕ}
-use Rattle.lists.specs.InOrder.{inOrder}
+use Rattle.lists.specs.InOrder.{inOrder, joined}
 use Rattle.streams.specs.Stream.{answersBy, readerBy}
-use Rattle.streams.specs.CutPromise.{joined, answersInParts, readerInParts, CutPromise}
+use Rattle.streams.specs.CutPromise.{answersInParts, readerInParts, CutPromise}
 
 pub answers-append : {R A : Type 0} (next : R → ℕ → R) (answer : R → ℕ → A) (r : R) (xs ys : List ℕ)
     → answersBy next answer r (xs ++ ys) ≡ answersBy next answer r xs ++ answersBy next answer (readerBy next r xs) ys

@@ -3,12 +3,8 @@
 use mathlib.Core.Path.{_≡_}
 use mathlib.Core.List.{List, [], _∷_, _++_}
 use Prim.Native.Nat.{ℕ}
-use Rattle.lists.specs.InOrder.{inOrder}
+use Rattle.lists.specs.InOrder.{joined}
 use Rattle.streams.specs.Stream.{answersBy, readerBy}
-
--- the whole stream
-abbrev pub joined : List (List ℕ) → List ℕ
-joined parts = inOrder (λ (part : List ℕ). part) parts
 
 abbrev pub answersInParts : {R A : Type 0} → (R → ℕ → R) → (R → ℕ → A) → R → List (List ℕ) → List A
 answersInParts next answer r [] = []

@@ -47,8 +47,7 @@ use Rattle.unit.proofs.Answers.{denied-reads, reads-said, which-cell}
 use Rattle.unit.proofs.Streams.{by-frame, unit-promise}
 use Rattle.tracker.proofs.Frames.{brought-none, brought-one, brought-behind}
 use Rattle.streams.specs.Stream.{answersBy, readerBy}
-use Rattle.lists.specs.InOrder.{inOrder}
-use Rattle.streams.specs.CutPromise.{joined}
+use Rattle.lists.specs.InOrder.{inOrder, joined}
 use Rattle.streams.proofs.Cut.{answers-append}
 use Rattle.lists.proofs.InOrder.{in-order-append}
 

@@ -8,10 +8,7 @@ use Rattle.sheet.specs.Line.{sameCell}
 use Rattle.sheetfile.specs.Run.{framesOf}
 use Rattle.sheet.specs.declared.line.Line.{Line}
 use Rattle.unit.specs.Unit.{Setting, value}
-
-abbrev pub Each : {A : Type 0} → (A → Type 0) → List A → Type 0
-Each P [] = Unit {0}
-Each P (x ∷ xs) = P x × Each P xs
+use Rattle.lists.specs.Each.{Each}
 
 abbrev pub Bytes : List ℕ → Type 0
 Bytes bs = Each (λ (b : ℕ). b < 256) bs

@@ -5,7 +5,7 @@ use mathlib.Core.Bool.{Bool, true, false, cond, _&&_}
 use mathlib.Core.List.{List, [], _∷_, _++_}
 use lib.Dec.{eqb}
 use Rattle.streams.specs.Stream.{answersBy, readerBy}
-use Rattle.streams.specs.CutPromise.{joined}
+use Rattle.lists.specs.InOrder.{joined}
 use Rattle.frame.specs.Frame.{frameOf}
 use Rattle.frame.specs.Reader.{answerTo, takenAfter}
 use Rattle.fields.specs.Fields.{fieldsIn, dataIn}
@@ -59,7 +59,7 @@ pub record Unit : Type 0 where
   pub taken : List ℕ
   pub settings : Settings
 
--- wherever a unit's setting is compared with a value, it is by this
+-- wherever a promise compares a unit's setting with a value, it is by this
 abbrev pub Holds : Unit → Setting → ℕ → Type 0
 Holds u x v = u .settings x ≡ v
 
@@ -91,8 +91,8 @@ nothing s = record { settings = s; answer = [] }
 abbrev pub acted : Row → Settings → Said → Done
 acted row s said =
     let x = about row s (said .zone) (said .command) (said .content) in
-    let after = put s x (valueAfter row (said .content) (s x)) in
-    record { settings = after; answer = frameOf Answer (said .zone) (said .command) 0x00 (shown x (after x)) }
+    let set = put s x (valueAfter row (said .content) (s x)) in
+    record { settings = set; answer = frameOf Answer (said .zone) (said .command) 0x00 (shown x (set x)) }
 
 -- "A refused frame changes nothing and is answered with Ac 82, 83, 86, 84 for 1, 2, 3, 4, its zone and command, Dl 0."
 abbrev pub refusalCode : ℕ → ℕ

@@ -91,7 +91,7 @@ pub record LinePromise (profile : Profile) (s : Settings) (l : Line) : Type 0 wh
 -- of any bytes sent: the settings stay legal, the current input stays, and the answers are bytes
 pub record UnitPromise (u : Unit) (sent : List ℕ) : Type 0 where
   pub legal : Legal (u .profile) (u .settings) → Legal (u .profile) (after u sent .settings)
-  pub now : after u sent .settings current ≡ u .settings current
+  pub now : Holds (after u sent) current (u .settings current)
   pub answers : Legal (u .profile) (u .settings) → Bytes (u .taken) → Bytes sent → Bytes (replies u sent)
 
 -- a frame that a unit's reader completes is one whole frame, and the unit hears in it what the library reads in it
