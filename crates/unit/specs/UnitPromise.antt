@@ -23,7 +23,7 @@ use Rattle.sheet.specs.Line.{isLegal}
 use Rattle.sheetfile.specs.Run.{lineFrame}
 use Rattle.sheet.specs.declared.line.Line.{Line}
 use Rattle.unit.specs.House.{valueAfter}
-use Rattle.unit.specs.Unit.{Setting, value, input, current, Settings, put, Unit, Done, nothing, shown, refusalCode, zoneIn, commandIn, heard, frameDone, done, takes, after, replies}
+use Rattle.unit.specs.Unit.{Holds, Setting, value, input, current, Settings, put, Unit, Done, nothing, shown, refusalCode, zoneIn, commandIn, heard, frameDone, done, takes, after, replies}
 use Rattle.unit.specs.Legal.{Legal}
 use Rattle.unit.specs.Sending.{Bytes, settingOf}
 
