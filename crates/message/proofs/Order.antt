@@ -1,8 +1,7 @@
 -- The first rule that applies gives its number; a message comes exactly when none applies. A refusal has no fields.
 use mathlib.Core.Path.{_≡_, refl, ap, sym, _∙_}
-use mathlib.Core.List.{List, [], _∷_}
+use mathlib.Core.List.{List}
 use mathlib.Core.Logic.{_⊎_, inl, inr}
-use mathlib.Core.Bool.{false}
 use Prim.Native.Nat.{ℕ}
 use native.Mathlib.Omega.{arith}
 use borrow.Author.Tests.{ne-eqb}
@@ -10,9 +9,9 @@ use Rattle.refusals.specs.Rule.{Rule}
 use Rattle.frame.specs.Frame.{frameOf}
 use Rattle.refusals.specs.RulePromise.{FirstApplies, NoneApplies}
 use Rattle.frame.specs.declared.direction.Direction.{Direction}
-use Rattle.refusals.proofs.Ruled.{refuses, pass-both}
 use Rattle.refusals.proofs.Rules.{rule-promise}
 use Rattle.lent.proofs.Writes.{write-promise}
+use Rattle.judging.proofs.Order.{none-refuses}
 use Rattle.row.specs.Profile.{profileOf}
 use Rattle.row.specs.declared.profile.Profile.{Profile}
 use Rattle.message.specs.Message.{readRules, messageOf, readOf, frameRead}
@@ -27,10 +26,6 @@ use Rattle.message.specs.declared.read.FrameReading.{FrameReading}
 use Rattle.message.specs.declared.read.FrameReading.the-variants as frame-reading
 use Rattle.message.specs.declared.read.Reading.{Reading}
 use Rattle.message.specs.declared.read.Reading.the-variants as reading
-
-none-refuses : (rs : List Rule) → NoneApplies rs → refuses rs ≡ false
-none-refuses [] w = refl
-none-refuses (r ∷ rs) w = pass-both r rs (w .0) (none-refuses rs (w .1))
 
 module _ (profile : Profile) (dir : Direction) (zone command ac : ℕ) (body : List ℕ) where
   abbrev rules : List Rule
