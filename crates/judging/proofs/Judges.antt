@@ -146,19 +146,24 @@ module _ (profile : Profile) (dir : Direction) (zone command : ℕ) (body : List
       the-row (found.Row r) g = ap found.Row (same-legal r row g)
       the-row found.NoRow g = legal-differs row 2 (sym g)
 
--- what holds of each rule's number holds of the first that applies, and of what judges data it is asked of four
+-- what holds of each rule's number holds of the first that applies; of rules of a row it is asked of two beside the row's own, and
+-- of what judges data of four
 pub first-number : (P : ℕ → Type 0) (rs : List Rule) → Each (λ (r : Rule). P (r .number)) rs → (n : ℕ) → FirstApplies rs n → P n
 first-number P [] e n w = absurd w
 first-number P (r ∷ rs) e n (inl w) = subst P (w .1) (e .0)
 first-number P (r ∷ rs) e n (inr w) = first-number P rs (e .1) n (w .1)
 
+pub row-numbers : (P : ℕ → Type 0) → P 1 → P 2 → (profile : Profile) (zone command : ℕ) (more : Row → List Rule) → ((row : Row) → Each (λ (r : Rule). P (r .number)) (more row))
+    → Each (λ (r : Rule). P (r .number)) (rowRules profile zone command more)
+row-numbers P one two profile zone command more rest = go (rowOf profile command)
+  where
+    go : (f : Found) → Each (λ (r : Rule). P (r .number)) (wrongProfileZone profile zone ∷ byRow f (λ row. wrongRowZone row zone ∷ more row))
+    go found.NoRow = (one, (two, tt))
+    go (found.Row row) = (one, (one, rest row))
+
 pub judge-numbers : (P : ℕ → Type 0) → P 1 → P 2 → P 3 → P 4 → (profile : Profile) (dir : Direction) (zone command : ℕ) (body : List ℕ)
     → Each (λ (r : Rule). P (r .number)) (judgeRules profile dir zone command body)
-judge-numbers P one two three four profile dir zone command body = go (rowOf profile command)
-  where
-    go : (f : Found) → Each (λ (r : Rule). P (r .number)) (wrongProfileZone profile zone ∷ byRow f (λ row. wrongRowZone row zone ∷ wrongLength dir row (length body) ∷ wrongValue dir row body ∷ []))
-    go found.NoRow = (one, (two, tt))
-    go (found.Row row) = (one, (one, (three, (four, tt))))
+judge-numbers P one two three four profile dir zone command body = row-numbers P one two profile zone command (more profile dir zone command body) (λ row. (three, (four, tt)))
 
 -- data whose length fits are not empty
 pub length-some : (dir : Direction) (row : Row) (n : ℕ) → hasLength dir row n ≡ true → 0 < n

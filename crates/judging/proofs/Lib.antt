@@ -1,3 +1,4 @@
 -- Proofs about the rules of the refusals.
 pub mod Judges
+pub mod Order
 pub mod OneAnswer

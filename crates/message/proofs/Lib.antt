@@ -10,5 +10,6 @@ pub mod Forms
 pub mod Witness
 pub mod Trip
 pub mod Order
+pub mod Checks
 pub mod Bench
 pub mod OneAnswer

@@ -1,24 +1,24 @@
 -- The first rule that applies gives its number; a message comes exactly when none applies. A refusal has no fields.
 use mathlib.Core.Path.{_≡_, refl, ap, sym, _∙_}
-use mathlib.Core.List.{List, [], _∷_}
+use mathlib.Core.List.{List}
 use mathlib.Core.Logic.{_⊎_, inl, inr}
-use mathlib.Core.Bool.{false}
 use Prim.Native.Nat.{ℕ}
 use native.Mathlib.Omega.{arith}
 use borrow.Author.Tests.{ne-eqb}
 use Rattle.refusals.specs.Rule.{Rule}
 use Rattle.frame.specs.Frame.{frameOf}
+use Rattle.fields.specs.Fields.{fieldsIn, dataOf}
 use Rattle.refusals.specs.RulePromise.{FirstApplies, NoneApplies}
 use Rattle.frame.specs.declared.direction.Direction.{Direction}
-use Rattle.refusals.proofs.Ruled.{refuses, pass-both}
 use Rattle.refusals.proofs.Rules.{rule-promise}
 use Rattle.lent.proofs.Writes.{write-promise}
+use Rattle.judging.proofs.Order.{none-refuses}
 use Rattle.row.specs.Profile.{profileOf}
 use Rattle.row.specs.declared.profile.Profile.{Profile}
 use Rattle.message.specs.Message.{readRules, messageOf, readOf, frameRead}
 use Rattle.message.specs.Write.{writeRules, messageFrame}
 use Rattle.message.specs.Numbers.{readingNumber, readingPaper, frameNumber, framePaper, zeroPaper}
-use Rattle.message.proofs.Trip.{paper-of, passed-message}
+use Rattle.message.proofs.Trip.{paper-of, passed-message, frame-brings}
 use Rattle.message.specs.OrderPromise.{OrderPromise}
 use Rattle.message.specs.MessageWritePromise.{MessageWritePromise}
 use Rattle.message.specs.MessageRefusalPromise.{MessageRefusalPromise}
@@ -27,10 +27,6 @@ use Rattle.message.specs.declared.read.FrameReading.{FrameReading}
 use Rattle.message.specs.declared.read.FrameReading.the-variants as frame-reading
 use Rattle.message.specs.declared.read.Reading.{Reading}
 use Rattle.message.specs.declared.read.Reading.the-variants as reading
-
-none-refuses : (rs : List Rule) → NoneApplies rs → refuses rs ≡ false
-none-refuses [] w = refl
-none-refuses (r ∷ rs) w = pass-both r rs (w .0) (none-refuses rs (w .1))
 
 module _ (profile : Profile) (dir : Direction) (zone command ac : ℕ) (body : List ℕ) where
   abbrev rules : List Rule
@@ -89,6 +85,9 @@ refusal-promise = record {
   named = (refl, refl);
   paper = λ profile dir zone command ac body m e.
       (ap readingNumber e, ap (λ (r : Reading). readingPaper profile r body) e ∙ paper-of profile dir zone command ac body m e);
+  frame-paper = λ profile dir bytes m e.
+      let b = frame-brings profile dir bytes m e in
+      (fieldsIn dir bytes, b .0, ap frameNumber e, ap (λ (r : FrameReading). framePaper profile r (dataOf dir bytes)) e ∙ b .1);
   frame-zero = λ profile dir bytes body. no-frame-fields profile (frameRead profile dir bytes) body;
   zero = λ profile dir zone command ac body. no-fields profile (readOf profile dir zone command ac body) body;
 }

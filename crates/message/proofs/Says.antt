@@ -11,10 +11,9 @@ use Rattle.frame.specs.declared.direction.Direction.{Direction}
 use Rattle.frame.specs.declared.direction.Direction.the-variants.{Command, Answer}
 use Rattle.frame.proofs.Cases.{cases}
 use Rattle.row.specs.declared.table.Row.{Row}
-use Rattle.judging.specs.Judge.{isAnswer, isWord, hasLength, hasByte}
+use Rattle.judging.specs.Judge.{isAnswer, isPair, isWord, hasLength, hasByte, hasValue, hasData}
 use Rattle.message.specs.Content.{wordOf, isOff, numberIn, valueContent, byteContent, contentOf, encodedOf, encodedData}
 use Rattle.message.proofs.Fits.{valueByte, fits}
-use Rattle.message.specs.FormPromise.{LegalData}
 use Rattle.message.specs.declared.content.Content.{Content}
 use Rattle.message.specs.declared.content.Content.the-variants.{Up, Down, On, Off, LevellerOff, Number}
 use Rattle.message.proofs.Tests.{both, former, by-value}
@@ -66,12 +65,12 @@ module _ (row : Row) where
   no-longer : (dir : Direction) (n : ℕ) → hasLength dir row (suc (suc (suc n))) ≡ false
   no-longer dir n = rw (ne-eqb (suc (suc (suc n))) 2 (λ e. omega arith), ne-eqb (suc (suc (suc n))) 1 (λ e. omega arith))
 
-  pub data-says : (dir : Direction) → Tidy dir row → (body : List ℕ) → LegalData dir row body → Says dir row body (contentOf dir row body)
+  pub data-says : (dir : Direction) → Tidy dir row → (body : List ℕ) → hasData dir row body ≡ true → Says dir row body (contentOf dir row body)
   unfolding contentOf
-  data-says dir tidy [] legal = let none : false ≡ true = legal .long in (cc, cc)
-  data-says dir tidy (b ∷ []) legal = byte-says dir tidy b (legal .value)
+  data-says dir tidy [] legal = let none : false ≡ true = legal in (cc, cc)
+  data-says dir tidy (b ∷ []) legal = byte-says dir tidy b (both (hasLength dir row 1) (hasByte dir row b) legal .1)
   data-says dir tidy (b ∷ c ∷ []) legal =
-      let (paired, rest) = both (row .pair) (leb c 1 && isAnswer row b) (legal .value) in
+      let (paired, rest) = both (row .pair) (leb c 1 && isAnswer row b) (both (row .pair) (isPair row b c) legal .1) in
       let (state, input) = both (leb c 1) (isAnswer row b) rest in
       (cc, rw (state-bit c state))
-  data-says dir tidy (b ∷ c ∷ d ∷ rest) legal = let none : false ≡ true = sym (no-longer dir (length rest)) ∙ legal .long in (cc, cc)
+  data-says dir tidy (b ∷ c ∷ d ∷ rest) legal = let none : false ≡ true = sym (no-longer dir (length rest)) ∙ both (hasLength dir row (suc (suc (suc (length rest))))) (hasValue dir row (b ∷ c ∷ d ∷ rest)) legal .0 in (cc, cc)

@@ -11,9 +11,10 @@ use Rattle.refusals.specs.Rule.{Rule, rule}
 use Rattle.frame.specs.Frame.{frameOf}
 use Rattle.lent.specs.Placed.{placed}
 use Rattle.fields.specs.Raw.{tooLong}
-use Rattle.fields.specs.Fields.{isFrame, fieldsIn, dataIn, dataOf, answerKept}
+use Rattle.fields.specs.Fields.{isFrame, answerIn, fieldsIn, dataIn, fieldsOf, dataOf, answerKept}
 use Rattle.frame.specs.declared.direction.Direction.{Direction}
 use Rattle.fields.specs.declared.fields.Fields.{Fields}
+use Rattle.fields.specs.declared.fields.Brought.the-variants as brings
 use Rattle.frame.specs.declared.direction.Direction.the-variants.{Command, Answer}
 use Rattle.lent.specs.declared.written.Written.the-variants as written
 use Rattle.refusals.proofs.Ruled.{refuses, was-accepted, accepted-by, pass-first, pass-both}
@@ -24,7 +25,7 @@ use Rattle.row.specs.declared.profile.Profile.{Profile}
 use Rattle.row.specs.declared.table.Row.{Row}
 use Rattle.row.specs.declared.table.Found.{Found}
 use Rattle.row.specs.declared.table.Found.the-variants as found
-use Rattle.judging.specs.Judge.{hasLength, wrongLength, judgeRules}
+use Rattle.judging.specs.Judge.{hasLength, hasValue, wrongLength, judgeRules}
 use Rattle.judging.proofs.Judges.{lies-refuses, pass-row, judge-passes, passes-judge}
 use Rattle.message.specs.Content as content
 use Rattle.message.specs.Message.{isDenial, wrongCode, said, denial, readRules, messageIn, messageOf, readOf, deniedData, fromReading, frameRead}
@@ -32,7 +33,6 @@ use Rattle.message.specs.Write.{saidRules, saidIn, saidData, notDenied, 
 use Rattle.lent.specs.Written.{writeAnswered, writeLeft}
 use Rattle.lent.proofs.Writes.{write-promise, write-passed, write-fits}
 use Rattle.message.specs.Numbers.{Paper, messagePaper}
-use Rattle.message.specs.MessageRefusalPromise.{codeOn}
 use Rattle.message.specs.MessagePromise.{ReadsAs, ReadsBack, MessagePromise}
 use Rattle.message.specs.declared.content.Content.{Content}
 use Rattle.message.specs.declared.read.Message.{Message}
@@ -40,6 +40,7 @@ use Rattle.message.specs.declared.read.Message.the-variants as message
 use Rattle.message.specs.declared.read.Reading.{Reading}
 use Rattle.message.specs.declared.read.Reading.the-variants as reading
 use Rattle.message.specs.declared.read.FrameReading.the-variants as frame
+use Rattle.message.proofs.Tests.{both}
 use Rattle.message.proofs.Forms.{form-promise}
 use Rattle.message.proofs.Written.{data-size}
 use Rattle.message.proofs.Readings.{frame-some}
@@ -67,12 +68,14 @@ module _ (profile : Profile) (dir : Direction) (zone command : ℕ) where
       let long = pass-first (wrongLength dir (p .row) (content.sizeOf c)) (rule 4 (not (content.isForm dir (p .row) c)) ∷ []) (p .rest) in
       let form = pass-first (rule 4 (not (content.isForm dir (p .row) c))) [] (long .1) in
       let there = p .lies .there in
-      let w = form-promise .written profile command (p .row) dir c there (not-false _ (form .0)) (not-false _ (long .0)) in
+      let w = form-promise .written profile command (p .row) dir c there (not-false _ (form .0)) in
       let same = data-in (p .row) c there in
+      let body = saidData profile command c in
+      let (fits, value) = both (hasLength dir (p .row) (length body)) (hasValue dir (p .row) body) (rw same (w .0)) in
       record {
         row = p .row;
         there = there;
-        judges = passes-judge profile dir zone command (saidData profile command c) (p .row) (p .lies) (rw same (w .0 .long)) (rw same (w .0 .value));
+        judges = passes-judge profile dir zone command body (p .row) (p .lies) fits value;
         says = e;
         means = ap (content.contentOf dir (p .row)) same ∙ w .2;
         load = refl;
@@ -84,7 +87,7 @@ module _ (profile : Profile) (dir : Direction) (zone command : ℕ) where
       let p = judge-passes profile dir zone command body e in
       let c = content.contentOf dir (p .row) body in
       let there = p .lies .there in
-      let r = form-promise .read profile command (p .row) dir body there (record { long = p .long; value = p .value }) in
+      let r = form-promise .read profile command (p .row) dir body there (rw (p .long) (p .value)) in
       let size : length body ≡ content.sizeOf c = ap length (sym (r .1)) ∙ data-size dir (p .row) c (rw (r .1) (p .long)) in
       let long : hasLength dir (p .row) (content.sizeOf c) ≡ true = rw (← size) (p .long) in
       let form = r .0 in (
@@ -185,7 +188,7 @@ record Again (profile : Profile) (dir : Direction) (zone command ac : ℕ) (body
   way : messageDirection m ≡ dir
   rules : refuses (writeRules profile m body) ≡ false
   frame : messageFrame profile m body ≡ frameOf dir zone command ac body
-  paper : messagePaper profile m body ≡ paperOf zone command (codeOn dir ac) body
+  paper : messagePaper profile m body ≡ paperOf zone command (answerKept dir ac) body
 
 again-of : (profile : Profile) (dir : Direction) (zone command ac : ℕ) (body : List ℕ) → refuses (readRules profile dir zone command ac body) ≡ false
     → (m : Message) × (messageOf profile dir zone command ac body ≡ reading.Message m) × Again profile dir zone command ac body m
@@ -254,7 +257,7 @@ was-read profile dir zone command ac body m e =
 
 -- a message that was read has the fields that it was read from
 pub paper-of : (profile : Profile) (dir : Direction) (zone command ac : ℕ) (body : List ℕ) (m : Message) → readOf profile dir zone command ac body ≡ reading.Message m
-    → messagePaper profile m body ≡ paperOf zone command (codeOn dir ac) body
+    → messagePaper profile m body ≡ paperOf zone command (answerKept dir ac) body
 paper-of profile dir zone command ac body m e = was-read profile dir zone command ac body m e .paper
 
 -- a command's answer code is not looked at
@@ -280,6 +283,10 @@ fields-back profile dir buf at zone command ac body n e =
             load = ap (λ (l : List ℕ). deniedData m l) (frame-promise .brought dir zone command ac body .load);
           }),
     )
+
+kept-in : (dir : Direction) (bytes : List ℕ) → answerKept dir (answerIn dir bytes) ≡ answerIn dir bytes
+kept-in Command bytes = refl
+kept-in Answer bytes = refl
 
 -- the fields and data of bytes that read as a message
 module _ (profile : Profile) (dir : Direction) (bytes : List ℕ) (m : Message) (e : frameRead profile dir bytes ≡ frame.Message m) where
@@ -307,6 +314,9 @@ module _ (profile : Profile) (dir : Direction) (bytes : List ℕ) (m : Message) 
 
   data-is : dataOf dir bytes ≡ body
   data-is = rw (whole .0)
+
+  pub frame-brings : (fieldsOf dir bytes ≡ brings.Frame f) × (messagePaper profile m (dataOf dir bytes) ≡ paperOf (f .zone) (f .command) (f .answer) (dataOf dir bytes))
+  frame-brings = (rw (whole .0), rw data-is (goes .paper ∙ ap (λ (n : ℕ). paperOf (f .zone) (f .command) n body) (kept-in dir bytes)))
 
   bytes-are : messageFrame profile m body ≡ bytes
   bytes-are = goes .frame ∙ sym (frame-again dir bytes (whole .0))

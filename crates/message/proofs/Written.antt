@@ -14,7 +14,6 @@ use Rattle.row.specs.declared.signed.Coded.the-variants as coded
 use Rattle.row.specs.declared.table.Row.{Row}
 use Rattle.judging.specs.Judge.{isWord, hasLength, hasValue, hasData}
 use Rattle.message.specs.Content.{wordOf, isOff, numberIn, valueContent, byteContent, contentOf, encodedOf, encodedCode, encodedData, sizeOf, formNumber, isForm}
-use Rattle.message.specs.FormPromise.{LegalData}
 use Rattle.message.specs.declared.content.Content.{Content}
 use Rattle.message.specs.declared.content.Content.the-variants.{Request, Up, Down, On, Off, Toggle, LevellerOff, Number, Input}
 use Rattle.message.proofs.Tests.{both}
@@ -103,10 +102,10 @@ module _ (dir : Direction) (row : Row) where
   same-form (Input input on) long e = ap (Input input) (state-byte on)
 
   pub writes : (content : Content) → isForm dir row content ≡ true
-      → LegalData dir row (encodedData (encodedOf row content)) × (length (encodedData (encodedOf row content)) ≡ sizeOf content) × (says content ≡ content)
+      → (hasData dir row (encodedData (encodedOf row content)) ≡ true) × (length (encodedData (encodedOf row content)) ≡ sizeOf content) × (says content ≡ content)
   unfolding isForm
   writes content e =
       let body = encodedData (encodedOf row content) in
       let (legal, same) = both (hasData dir row body) (eqb (formNumber (says content)) (formNumber content)) e in
-      let (long, value) = both (hasLength dir row (length body)) (hasValue dir row body) legal in
-      (record { long = long; value = value }, data-size content long, same-form content long (eqb-true _ _ same))
+      let long = both (hasLength dir row (length body)) (hasValue dir row body) legal .0 in
+      (legal, data-size content long, same-form content long (eqb-true _ _ same))

@@ -1,5 +1,4 @@
--- Promise: in each row and direction every legal data have exactly one typed form, and every form of the row whose length the
--- row has is that of legal data.
+-- Promise: in each row and direction every legal data have exactly one typed form, and every form of the row is that of legal data.
 use mathlib.Core.Path.{_≡_}
 use mathlib.Core.Bool.{true}
 use mathlib.Core.List.{List}
@@ -10,20 +9,14 @@ use Rattle.row.specs.Table.{rowOf}
 use Rattle.row.specs.declared.profile.Profile.{Profile}
 use Rattle.row.specs.declared.table.Row.{Row}
 use Rattle.row.specs.declared.table.Found.the-variants as found
-use Rattle.judging.specs.Judge.{hasLength, hasValue}
+use Rattle.judging.specs.Judge.{hasData}
 use Rattle.message.specs.Content.{contentOf, encodedOf, encodedData, sizeOf, isForm}
 use Rattle.message.specs.declared.content.Content.{Content}
 
--- data that a row has in a direction
-pub record LegalData (dir : Direction) (row : Row) (body : List ℕ) : Type 0 where
-  pub long : hasLength dir row (length body) ≡ true
-  pub value : hasValue dir row body ≡ true
-
 pub record FormPromise : Type 0 where
   -- legal data say a form of the row, and that form's data are these
-  pub read : (profile : Profile) (command : ℕ) (row : Row) (dir : Direction) (body : List ℕ) → rowOf profile command ≡ found.Row row → LegalData dir row body
+  pub read : (profile : Profile) (command : ℕ) (row : Row) (dir : Direction) (body : List ℕ) → rowOf profile command ≡ found.Row row → hasData dir row body ≡ true
       → (isForm dir row (contentOf dir row body) ≡ true) × (encodedData (encodedOf row (contentOf dir row body)) ≡ body)
   -- a form of the row has legal data, and they say it
   pub written : (profile : Profile) (command : ℕ) (row : Row) (dir : Direction) (content : Content) → rowOf profile command ≡ found.Row row → isForm dir row content ≡ true
-      → (hasLength dir row (sizeOf content) ≡ true)
-      → LegalData dir row (encodedData (encodedOf row content)) × (length (encodedData (encodedOf row content)) ≡ sizeOf content) × (contentOf dir row (encodedData (encodedOf row content)) ≡ content)
+      → (hasData dir row (encodedData (encodedOf row content)) ≡ true) × (length (encodedData (encodedOf row content)) ≡ sizeOf content) × (contentOf dir row (encodedData (encodedOf row content)) ≡ content)

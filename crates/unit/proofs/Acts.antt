@@ -54,7 +54,7 @@ accepted profile zone command body e =
       lies = passes .lies;
       row-in = lies-judged profile zone command (passes .row) (passes .lies);
       there = there;
-      form = form-promise .read profile command (passes .row) Command body there (record { long = passes .long; value = passes .value }) .0;
+      form = form-promise .read profile command (passes .row) Command body there (rw (passes .long) (passes .value)) .0;
     }
 
 module _ (profile : Profile) (s : Settings) (bytes : List ℕ) where

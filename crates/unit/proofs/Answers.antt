@@ -1,6 +1,6 @@
 -- The answers of a unit, as the library reads them.
 use mathlib.Core.Path.{_≡_, refl, ap, sym, _∙_, subst}
-use mathlib.Core.Bool.{Bool, true, false, cond, _&&_}
+use mathlib.Core.Bool.{Bool, true, false, cond, not, _&&_}
 use mathlib.Core.List.{List, [], _∷_, _++_}
 use mathlib.Core.Logic.{_⊎_, inl, inr}
 use Prim.Native.Nat.{ℕ, zero, suc, _<_}
@@ -17,7 +17,7 @@ use Rattle.refusals.proofs.Ruled.{was-accepted, accepted-by}
 use Rattle.row.specs.declared.profile.Profile.{Profile}
 use Rattle.row.specs.declared.table.Row.{Row}
 use Rattle.row.specs.declared.table.Found.{Found}
-use Rattle.judging.specs.Judge.{isAnswer, isPair, judgeRules}
+use Rattle.judging.specs.Judge.{isAnswer, isPair, hasLength, hasValue, hasData, judgeRules}
 use Rattle.message.specs.Content.{contentOf, isForm}
 use Rattle.message.specs.Message.{said, messageIn, messageOf, readRules, readOf, fromReading, frameRead}
 use Rattle.message.specs.declared.content.Content.{Content}
@@ -28,7 +28,6 @@ use Rattle.message.specs.declared.read.Reading.the-variants as reading
 use Rattle.judging.proofs.Judges.{first-number, judge-numbers, passes-judge}
 use Rattle.message.proofs.Order.{order-promise}
 use Rattle.message.proofs.Readings.{frame-some}
-use Rattle.message.specs.FormPromise.{LegalData}
 use Rattle.message.proofs.Tests.{both}
 use Rattle.unit.specs.House.{valueAfter}
 use Rattle.unit.specs.Unit.{Setting, value, input, current, Settings, put, about, shown, Done, refusalCode, acted, zoneIn, commandIn, heard, frameDone}
@@ -66,6 +65,9 @@ four profile zone command body n e =
     (judge-numbers (λ k. (k ≡ 1) ⊎ (k ≡ 2) ⊎ (k ≡ 3) ⊎ (k ≡ 4)) (inl refl) (inr (inl refl)) (inr (inr (inl refl))) (inr (inr (inr refl))) profile Command zone command body) n
     (order-promise profile Command zone command 0 body .applies n e)
 
+together : (s t : Bool) → s ≡ true → t ≡ true → s && t ≡ true
+together s t e f = rw (e, f)
+
 -- a command that was accepted, at legal settings
 module _ (profile : Profile) (s : Settings) (l : Legal profile s) (z k : ℕ) (d : List ℕ) (a : Accepted profile z k d) where
   abbrev r : Row
@@ -76,15 +78,15 @@ module _ (profile : Profile) (s : Settings) (l : Legal profile s) (z k : ℕ) (d
 
   -- what a cell shows is legal in an answer of the row
   Shows : Setting → ℕ → Type 0
-  Shows y w = LegalData Answer r (shown y w) × ((y ≡ value z k) ⊎ ((i : ℕ) × (y ≡ input i)))
+  Shows y w = (hasData Answer r (shown y w) ≡ true) × ((y ≡ value z k) ⊎ ((i : ℕ) × (y ≡ input i)))
 
   shows-pair : (i w : ℕ) → r .pair ≡ true → isPair r i w ≡ true → Shows (input i) w
   unfolding Shows
-  shows-pair i w paired e = (record { long = paired; value = e }, inr (i, refl))
+  shows-pair i w paired e = (together (r .pair) (isPair r i w) paired e, inr (i, refl))
 
   shows-single : (w : ℕ) → r .pair ≡ false → isAnswer r w ≡ true → Shows (value z k) w
   unfolding Shows
-  shows-single w single e = (record { long = rw single; value = e }, inl refl)
+  shows-single w single e = (together (hasLength Answer r 1) (isAnswer r w) (ap not single) e, inl refl)
 
   shows : (c : Content) → isForm Command r c ≡ true → Shows (x c) (valueAfter r c (s (x c)))
   shows c f = go (r .pair) refl
@@ -102,10 +104,11 @@ module _ (profile : Profile) (s : Settings) (l : Legal profile s) (z k : ℕ) (d
           (shows-single (valueAfter r c (s (value z k))) e (made-legal profile s l z k d a c f r (a .row-in) e))
 
   -- legal data of an answer are read as a status
-  status-reads : (b : List ℕ) → LegalData Answer r b → readOf profile Answer z k 0 b ≡ reading.Message (message.Status (said Answer r z k b))
+  status-reads : (b : List ℕ) → hasData Answer r b ≡ true → readOf profile Answer z k 0 b ≡ reading.Message (message.Status (said Answer r z k b))
   unfolding readOf
   status-reads b h =
-      let pass = passes-judge profile Answer z k b r (a .lies) (h .long) (h .value) in
+      let (long, fits) = both (hasLength Answer r (length b)) (hasValue Answer r b) h in
+      let pass = passes-judge profile Answer z k b r (a .lies) long fits in
       accepted-by (readRules profile Answer z k 0 b) reading.Refused _ pass ∙ ap (λ (f : Found). messageIn f (λ row. message.Status (said Answer row z k b))) (a .there)
 
   abbrev c : Content
@@ -117,7 +120,7 @@ module _ (profile : Profile) (s : Settings) (l : Legal profile s) (z k : ℕ) (d
   held : later (x c) ≡ valueAfter r c (s (x c))
   held = rw (cell-self (x c))
 
-  data-legal : LegalData Answer r (shown (x c) (later (x c)))
+  data-legal : hasData Answer r (shown (x c) (later (x c))) ≡ true
   unfolding Shows
   data-legal = rw held (shows c (a .form) .0)
 
@@ -140,13 +143,13 @@ module _ (profile : Profile) (s : Settings) (l : Legal profile s) (z k : ℕ) (d
   }
 
   -- and they are bytes
-  shown-bytes : (y : Setting) (w : ℕ) → LegalData Answer r (shown y w) → Bytes (shown y w)
-  shown-bytes (value zone command) w h = (well profile k r (a .there) .answer-byte w (h .value), tt)
+  shown-bytes : (y : Setting) (w : ℕ) → hasData Answer r (shown y w) ≡ true → Bytes (shown y w)
+  shown-bytes (value zone command) w h = (well profile k r (a .there) .answer-byte w (both (hasLength Answer r 1) (isAnswer r w) h .1), tt)
   shown-bytes (input i) w h =
-      let (paired, rest) = both (r .pair) (leb w 1 && isAnswer r i) (h .value) in
+      let (paired, rest) = both (r .pair) (leb w 1 && isAnswer r i) (both (r .pair) (isPair r i w) h .1) in
       let (small, known) = both (leb w 1) (isAnswer r i) rest in
       (well profile k r (a .there) .answer-byte i known, (omega (arith, leb-true w 1 small), tt))
-  shown-bytes current w h = (well profile k r (a .there) .answer-byte w (h .value), tt)
+  shown-bytes current w h = (well profile k r (a .there) .answer-byte w (both (hasLength Answer r 1) (isAnswer r w) h .1), tt)
 
 -- a frame's promise
 module _ (profile : Profile) (s : Settings) (bytes : List ℕ) where

@@ -213,7 +213,7 @@ module _ (profile : Profile) (command : ℕ) (row : Row) (there : rowOf profile 
       (rw (well .set-no-word w s) at says))
     where
       says : encodedData (encodedOf row (contentOf Command row (w ∷ []))) ≡ w ∷ []
-      says = form-promise .read profile command row Command (w ∷ []) there (record { long = refl; value = rw s }) .1
+      says = form-promise .read profile command row Command (w ∷ []) there (rw s) .1
 
   unless : (v w : ℕ) → isAnswer row v ≡ true → isAnswer row w ≡ true → isAnswer row (unlessNotCalculated row v w) ≡ true
   unless v w a b = cases (λ (x : ℕ). isAnswer row x ≡ true) (isNotCalculated row v) (λ e. a) (λ e. b)
