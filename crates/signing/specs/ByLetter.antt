@@ -9,10 +9,9 @@ use Rattle.row.specs.declared.profile.Profile.{Profile}
 use Rattle.row.specs.declared.profile.NamedProfile.{NamedProfile}
 use Rattle.row.specs.declared.profile.NamedProfile.the-variants as named
 use Rattle.sheetfile.specs.File.{records, linesIn, fileVerdict}
-use Rattle.tracker.specs.Tracker.{freshTracker, keptIn}
-use Rattle.tracker.specs.Feed.{answersFed}
+use Rattle.tracker.specs.Tracker.{keptIn}
+use Rattle.tracker.specs.Capture.{trackedBy}
 use Rattle.signing.specs.Sign.{allHold, signedBy}
-use Rattle.tracker.specs.Capture.{broughtBy}
 use Rattle.tracker.specs.declared.tracker.Kept.{Kept}
 use Rattle.tracker.specs.declared.tracker.Kept.the-variants as kept
 use Rattle.signing.specs.declared.sign.Signed.{Signed}
@@ -23,7 +22,7 @@ use Rattle.signing.specs.declared.by_letter.CaptureCell.the-variants as 
 abbrev pub fileSigned : Profile → List ℕ → List ℕ → Signed
 fileSigned profile file capture =
     ruled (longCapture (length capture) ∷ []) (λ n. signed.Refused n 0)
-    (signedBy (fileVerdict profile file) (allHold (answersFed (freshTracker profile) (broughtBy capture)) (linesIn (records file))))
+    (signedBy (fileVerdict profile file) (allHold (trackedBy profile capture) (linesIn (records file))))
 
 abbrev pub fileSignedBy : NamedProfile → List ℕ → List ℕ → Signed
 fileSignedBy (named.Profile profile) file capture = fileSigned profile file capture
@@ -37,7 +36,7 @@ shownCell kept.NoCell = cell.NoCell
 
 abbrev pub captureCell : Profile → List ℕ → ℕ → ℕ → CaptureCell
 captureCell profile capture zone command =
-    ruled (longCapture (length capture) ∷ []) cell.Refused (shownCell (keptIn (answersFed (freshTracker profile) (broughtBy capture)) zone command))
+    ruled (longCapture (length capture) ∷ []) cell.Refused (shownCell (keptIn (trackedBy profile capture) zone command))
 
 abbrev pub captureCellBy : NamedProfile → List ℕ → ℕ → ℕ → CaptureCell
 captureCellBy (named.Profile profile) capture zone command = captureCell profile capture zone command
