@@ -1,5 +1,5 @@
--- The same of a sheet that comes as the bytes of its sheet file, by the profile's letter: "Order: 12, then 11, before all others",
--- then the file's refusals.
+-- What a capture alone signs off and makes known, by the profile's letter: "Order: 12, then 11, before all others". The sheet comes as
+-- the bytes of its sheet file, whose refusals are next.
 use Prim.Native.Nat.{ℕ}
 use mathlib.Core.List.{List, [], _∷_}
 use lib.ListN.{length}
@@ -19,6 +19,7 @@ use Rattle.signing.specs.declared.sign.Signed.the-variants as signed
 use Rattle.signing.specs.declared.by_letter.CaptureCell.{CaptureCell}
 use Rattle.signing.specs.declared.by_letter.CaptureCell.the-variants as cell
 
+-- a sheet file signed off by a capture alone
 abbrev pub fileSigned : Profile → List ℕ → List ℕ → Signed
 fileSigned profile file capture =
     ruled (longCapture (length capture) ∷ []) (λ n. signed.Refused n 0)
@@ -28,12 +29,13 @@ abbrev pub fileSignedBy : NamedProfile → List ℕ → List ℕ → Signed
 fileSignedBy (named.Profile profile) file capture = fileSigned profile file capture
 fileSignedBy (named.Refused n) file capture = signed.Refused n 0
 
--- what a tracker made new knows of a row and zone once a capture was fed to it
+-- what is kept, as an answer that may also be a refusal
 abbrev pub shownCell : Kept → CaptureCell
 shownCell (kept.Value b) = cell.Value b
 shownCell kept.Unknown = cell.Unknown
 shownCell kept.NoCell = cell.NoCell
 
+-- what a tracker made new knows of a row and zone once a capture was fed to it
 abbrev pub captureCell : Profile → List ℕ → ℕ → ℕ → CaptureCell
 captureCell profile capture zone command =
     ruled (longCapture (length capture) ∷ []) cell.Refused (shownCell (keptIn (trackedBy profile capture) zone command))

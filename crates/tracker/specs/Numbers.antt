@@ -1,6 +1,6 @@
 -- Document 01, 'Which language form to use': "Where an answer is an enum, a definition gives this paper's number and values for
--- each of its cases." 'Refusal numbers': "A refusal returns its number and zero for every other field (6, 7, 8 and 10: also the
--- line's index from 0 ..)". The number of an answer that is no refusal is 0.
+-- each of its cases." 'Refusal numbers': "A refusal returns its number and zero for every other field". The number of an
+-- answer that is no refusal is 0.
 use Prim.Native.Nat.{ℕ}
 use mathlib.Core.List.{List}
 use Rattle.message.specs.Numbers.{readingNumber, Paper, readingPaper}
