@@ -14,8 +14,7 @@ use Rattle.sheet.specs.Check.{sheetVerdict}
 use Rattle.sheet.specs.declared.line.Line.{Line}
 use Rattle.sheet.specs.declared.check.Verdict.the-variants as verdict
 use Rattle.tracker.specs.Tracker.{freshTracker}
-use Rattle.tracker.specs.Feed.{answersFed}
-use Rattle.tracker.specs.Capture.{broughtBy, captureFed}
+use Rattle.tracker.specs.Capture.{broughtBy, trackedBy, captureFed}
 use Rattle.tracker.specs.declared.tracker.Tracker.{Tracker}
 use Rattle.tracker.specs.declared.capture.CaptureFed.{CaptureFed}
 use Rattle.tracker.specs.declared.capture.CaptureAnswer.{CaptureAnswer}
@@ -38,13 +37,10 @@ refused-not : (n i : ℕ) → signed.Refused n i ≡ signed.Yes → ⊥
 refused-not n i e = let z : _≡_ {A = ℕ} 0 1 = cc in omega arith
 
 module _ (profile : Profile) (ls : List Line) (capture : List ℕ) where
-  abbrev after : Tracker
-  after = answersFed (freshTracker profile) (broughtBy capture)
-
   pub long : captureLimit < length capture → captureSigned profile ls capture ≡ signed.Refused 11 0
   long h = rw (lt-ltb captureLimit (length capture) h)
 
-  pub short : length capture ≤ captureLimit → captureSigned profile ls capture ≡ signOff after ls
+  pub short : length capture ≤ captureLimit → captureSigned profile ls capture ≡ signOff (trackedBy profile capture) ls
   short h = rw (le-ltb captureLimit (length capture) h)
 
   -- a sign-off goes on from feeding
@@ -68,7 +64,7 @@ module _ (profile : Profile) (ls : List Line) (capture : List ℕ) where
         go true g =
             let over = ltb-true captureLimit (length capture) g in
             long over ∙ ap (λ (k : ℕ). signed.Refused k 0) (same-number 11 n (sym (its-answer (answer.Refused 11) (freshTracker profile) (fed-long (freshTracker profile) capture over)) ∙ refused))
-        go false g = absurd (fed-not n (sym (its-answer answer.Fed after (fed-short (freshTracker profile) capture (ltb-false _ _ g))) ∙ refused))
+        go false g = absurd (fed-not n (sym (its-answer answer.Fed (trackedBy profile capture) (fed-short (freshTracker profile) capture (ltb-false _ _ g))) ∙ refused))
 
   only : captureSigned profile ls capture ≡ signed.Yes
       → (length capture ≤ captureLimit) × (sheetVerdict profile ls ≡ verdict.Accepted) × Each (IsAnswered profile (broughtBy capture)) ls

@@ -20,16 +20,14 @@ use Rattle.sheet.specs.declared.check.Verdict.the-variants as verdict
 use Rattle.sheetfile.proofs.Trips.{trip-lines, trip-verdict}
 use Rattle.sheetfile.proofs.Plains.{said, both, sheet-read}
 use Rattle.tracker.specs.Tracker.{freshTracker, keptIn}
-use Rattle.tracker.specs.Feed.{answersFed}
 use Rattle.signing.specs.Sign.{allHold, signedBy}
-use Rattle.tracker.specs.Capture.{broughtBy, captureFed}
+use Rattle.tracker.specs.Capture.{broughtBy, trackedBy, captureFed}
 use Rattle.signing.specs.Capture.{captureSigned}
 use Rattle.tracker.specs.Numbers.{keptState, keptByte}
 use Rattle.signing.specs.ByLetter.{fileSigned, shownCell, captureCell, captureCellNumber, captureCellState, captureCellByte}
 use Rattle.signing.specs.SignByLetterPromise.{SignByLetterPromise, SignOtherLetter}
 use Rattle.tracker.specs.declared.tracker.Kept.{Kept}
 use Rattle.tracker.specs.declared.tracker.Kept.the-variants as kept
-use Rattle.tracker.specs.declared.tracker.Tracker.{Tracker}
 use Rattle.signing.specs.declared.sign.Signed.the-variants as signed
 use Rattle.tracker.specs.declared.capture.CaptureFed.{CaptureFed}
 use Rattle.tracker.specs.declared.capture.CaptureAnswer.the-variants as answer
@@ -43,13 +41,10 @@ module _ (profile : Profile) (file capture : List ℕ) where
   abbrev lines : List Line
   lines = linesIn (records file)
 
-  abbrev after : Tracker
-  after = answersFed (freshTracker profile) (broughtBy capture)
-
   pub file-long : captureLimit < length capture → fileSigned profile file capture ≡ signed.Refused 11 0
   file-long h = rw (lt-ltb captureLimit (length capture) h)
 
-  within : length capture ≤ captureLimit → (v : Verdict) → fileRead profile file .verdict ≡ v → fileSigned profile file capture ≡ signedBy v (allHold after lines)
+  within : length capture ≤ captureLimit → (v : Verdict) → fileRead profile file .verdict ≡ v → fileSigned profile file capture ≡ signedBy v (allHold (trackedBy profile capture) lines)
   within h v e = rw (le-ltb captureLimit (length capture) h, said profile file v e)
 
   pub file-refused : length capture ≤ captureLimit → (n i : ℕ) → fileRead profile file .verdict ≡ verdict.Refused n i → fileSigned profile file capture ≡ signed.Refused n i
@@ -61,7 +56,7 @@ module _ (profile : Profile) (file capture : List ℕ) where
       ap (λ (s : Sheet). captureSigned profile (linesOf s) capture) (sheet-read profile file e)
       ∙ capture-together profile lines capture
       ∙ short profile lines capture h
-      ∙ ap (λ (v : Verdict). signedBy v (allHold after lines)) (its-verdict profile (broughtBy capture) lines ∙ both profile file e ∙ said profile file verdict.Accepted e)
+      ∙ ap (λ (v : Verdict). signedBy v (allHold (trackedBy profile capture) lines)) (its-verdict profile (broughtBy capture) lines ∙ both profile file e ∙ said profile file verdict.Accepted e)
       ∙ sym (within h verdict.Accepted e)
 
 -- a cell goes on from feeding
@@ -90,11 +85,10 @@ shown-state kept.NoCell = (refl, refl, refl)
 pub plain-promise : (letter : ℕ) (profile : Profile) (n : profileOf letter ≡ named.Profile profile) (capture : List ℕ) → SignByLetterPromise letter profile n capture
 plain-promise letter profile n capture = record {
   signs = λ ls.
-      let t = answersFed (freshTracker profile) (broughtBy capture) in
       rw (n, trip-verdict profile ls, trip-lines profile ls)
-      (ap (λ (v : Verdict). ruled (longCapture (length capture) ∷ []) (λ m. signed.Refused m 0) (signedBy v (allHold t ls))) (sym (its-verdict profile (broughtBy capture) ls)));
+      (ap (λ (v : Verdict). ruled (longCapture (length capture) ∷ []) (λ m. signed.Refused m 0) (signedBy v (allHold (trackedBy profile capture) ls))) (sym (its-verdict profile (broughtBy capture) ls)));
   shows = λ h zone command.
-      rw (n, le-ltb captureLimit (length capture) h) (shown-state (keptIn (answersFed (freshTracker profile) (broughtBy capture)) zone command));
+      rw (n, le-ltb captureLimit (length capture) h) (shown-state (keptIn (trackedBy profile capture) zone command));
   refused = λ h file m i e. rw (n, le-ltb captureLimit (length capture) h, e) (refl, refl, refl);
   eleven = λ h file zone command. rw (n, lt-ltb captureLimit (length capture) h) ((refl, refl, refl), (refl, refl, refl));
 }

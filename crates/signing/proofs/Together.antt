@@ -9,10 +9,8 @@ use Rattle.row.specs.declared.profile.Profile.{Profile}
 use Rattle.sheet.specs.Sheet.{noLines, withAll, linesOf}
 use Rattle.sheet.specs.declared.line.Line.{Line}
 use Rattle.sheetfile.proofs.Together.{by-verdict}
-use Rattle.tracker.specs.Tracker.{freshTracker}
-use Rattle.tracker.specs.Feed.{answersFed}
 use Rattle.signing.specs.Sign.{allHold, signedBy, signOff}
-use Rattle.tracker.specs.Capture.{broughtBy}
+use Rattle.tracker.specs.Capture.{trackedBy}
 use Rattle.signing.specs.Capture.{captureSigned}
 use Rattle.tracker.specs.declared.tracker.Tracker.{Tracker}
 use Rattle.signing.specs.declared.sign.Signed.{Signed}
@@ -23,4 +21,4 @@ sign-together t ls = by-verdict (λ v xs. signedBy v (allHold t xs)) (λ n i xs 
 
 pub capture-together : (profile : Profile) (ls : List Line) (capture : List ℕ) → captureSigned profile (linesOf (withAll noLines ls)) capture ≡ captureSigned profile ls capture
 capture-together profile ls capture =
-    ap (λ (s : Signed). ruled (longCapture (length capture) ∷ []) (λ n. signed.Refused n 0) s) (sign-together (answersFed (freshTracker profile) (broughtBy capture)) ls)
+    ap (λ (s : Signed). ruled (longCapture (length capture) ∷ []) (λ n. signed.Refused n 0) s) (sign-together (trackedBy profile capture) ls)

@@ -6,14 +6,12 @@ use Rattle.refusals.specs.Rule.{ruled}
 use Rattle.frame.specs.Capture.{longCapture}
 use Rattle.row.specs.declared.profile.Profile.{Profile}
 use Rattle.sheet.specs.declared.line.Line.{Line}
-use Rattle.tracker.specs.Tracker.{freshTracker}
-use Rattle.tracker.specs.Feed.{answersFed}
-use Rattle.tracker.specs.Capture.{broughtBy}
+use Rattle.tracker.specs.Capture.{trackedBy}
 use Rattle.signing.specs.Sign.{signOff}
 use Rattle.signing.specs.declared.sign.Signed.{Signed}
 use Rattle.signing.specs.declared.sign.Signed.the-variants as signed
 
--- "Made new for one profile" and fed the capture alone: 11 has no place, and comes before the sheet's refusal
+-- 11 has no place, and comes before the sheet's refusal
 abbrev pub captureSigned : Profile → List Line → List ℕ → Signed
 captureSigned profile ls capture =
-    ruled (longCapture (length capture) ∷ []) (λ n. signed.Refused n 0) (signOff (answersFed (freshTracker profile) (broughtBy capture)) ls)
+    ruled (longCapture (length capture) ∷ []) (λ n. signed.Refused n 0) (signOff (trackedBy profile capture) ls)

@@ -1,4 +1,6 @@
--- Document 01, 'Which language form to use' and 'Refusal numbers': this paper's number and values for each answer of a sign-off. The number of an answer that is no refusal is 0.
+-- Document 01, 'Which language form to use': "Where an answer is an enum, a definition gives this paper's number and values for
+-- each of its cases." 'Refusal numbers': "A refusal returns its number and zero for every other field (6, 7, 8 and 10: also the
+-- line's index from 0 ..)". The number of an answer that is no refusal is 0.
 use Prim.Native.Nat.{ℕ}
 use Rattle.signing.specs.declared.sign.Signed.{Signed}
 use Rattle.signing.specs.declared.sign.Signed.the-variants as signed

@@ -11,9 +11,8 @@ use Rattle.row.specs.declared.profile.NamedProfile.the-variants as named
 use Rattle.sheetfile.specs.File.{fileOf, fileVerdict}
 use Rattle.sheet.specs.declared.line.Line.{Line}
 use Rattle.sheet.specs.declared.check.Verdict.the-variants as verdict
-use Rattle.tracker.specs.Tracker.{freshTracker, keptIn}
-use Rattle.tracker.specs.Feed.{answersFed}
-use Rattle.tracker.specs.Capture.{broughtBy}
+use Rattle.tracker.specs.Tracker.{keptIn}
+use Rattle.tracker.specs.Capture.{trackedBy}
 use Rattle.signing.specs.Capture.{captureSigned}
 use Rattle.tracker.specs.Numbers.{keptState, keptByte}
 use Rattle.signing.specs.Numbers.{signedNumber, signedPlace, signedYes}
@@ -32,8 +31,8 @@ pub record SignByLetterPromise (letter : ℕ) (profile : Profile) (named : profi
   pub signs : (ls : List Line) → fileSignedBy (profileOf letter) (fileOf profile ls) capture ≡ captureSigned profile ls capture
   pub shows : length capture ≤ captureLimit → (zone command : ℕ)
       → (captureCellNumber (captureCellBy (profileOf letter) capture zone command) ≡ 0)
-      × (captureCellState (captureCellBy (profileOf letter) capture zone command) ≡ keptState (keptIn (answersFed (freshTracker profile) (broughtBy capture)) zone command))
-      × (captureCellByte (captureCellBy (profileOf letter) capture zone command) ≡ keptByte (keptIn (answersFed (freshTracker profile) (broughtBy capture)) zone command))
+      × (captureCellState (captureCellBy (profileOf letter) capture zone command) ≡ keptState (keptIn (trackedBy profile capture) zone command))
+      × (captureCellByte (captureCellBy (profileOf letter) capture zone command) ≡ keptByte (keptIn (trackedBy profile capture) zone command))
   -- a file that is refused: its own number and place
   pub refused : length capture ≤ captureLimit → (file : List ℕ) (n i : ℕ) → fileVerdict profile file ≡ verdict.Refused n i
       → (signedNumber (fileSignedBy (profileOf letter) file capture) ≡ n) × (signedPlace (fileSignedBy (profileOf letter) file capture) ≡ i)

@@ -14,9 +14,11 @@ use Rattle.frame.specs.declared.capture.Next.the-variants as next
 use Rattle.frame.proofs.Leads.{leads, none-first}
 use Rattle.tracker.specs.Feed.{answersFed}
 use Rattle.tracker.specs.Capture.{broughtAt, broughtBy, captureFed}
+use Rattle.tracker.specs.Numbers.{captureNumber}
 use Rattle.tracker.specs.CaptureFedPromise.{CaptureFedPromise}
 use Rattle.tracker.specs.declared.tracker.Tracker.{Tracker}
 use Rattle.tracker.specs.declared.capture.CaptureFed.{CaptureFed}
+use Rattle.tracker.specs.declared.capture.CaptureAnswer.{CaptureAnswer}
 use Rattle.tracker.specs.declared.capture.CaptureAnswer.the-variants as answer
 use Rattle.tracker.proofs.History.{fed-append, feeds-promise}
 
@@ -45,11 +47,15 @@ module _ (t : Tracker) (capture : List ℕ) where
 
   pub fed-promise : CaptureFedPromise t capture
   fed-promise = record {
-    fed = λ h. let e = fed-short h in (ap (λ (x : CaptureFed). x .tracker) e, ap (λ (x : CaptureFed). x .answer) e);
-    long = λ h. let e = fed-long h in (ap (λ (x : CaptureFed). x .tracker) e, ap (λ (x : CaptureFed). x .answer) e);
+    fed = λ h. parts (answersFed t (broughtBy capture)) answer.Fed (fed-short h);
+    long = λ h. parts t (answer.Refused 11) (fed-long h);
     profile = go (ltb captureLimit (length capture)) refl;
   }
     where
+      parts : (x : Tracker) (a : CaptureAnswer) → captureFed t capture ≡ record { tracker = x; answer = a }
+          → (captureFed t capture .tracker ≡ x) × (captureFed t capture .answer ≡ a) × (captureNumber (captureFed t capture .answer) ≡ captureNumber a)
+      parts x a e = (ap (λ (f : CaptureFed). f .tracker) e, ap (λ (f : CaptureFed). f .answer) e, ap (λ (f : CaptureFed). captureNumber (f .answer)) e)
+
       go : (b : Bool) → ltb captureLimit (length capture) ≡ b → captureFed t capture .tracker .profile ≡ t .profile
       go true e = ap (λ (x : CaptureFed). x .tracker .profile) (fed-long (ltb-true _ _ e))
       go false e = ap (λ (x : CaptureFed). x .tracker .profile) (fed-short (ltb-false _ _ e)) ∙ feeds-promise t (broughtBy capture) .profile

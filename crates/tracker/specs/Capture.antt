@@ -11,9 +11,11 @@ use Rattle.frame.specs.declared.direction.Direction.the-variants.{Answer}
 use Rattle.frame.specs.declared.capture.Kind.{Kind}
 use Rattle.frame.specs.declared.capture.Kind.the-variants as kind
 use Rattle.frame.specs.declared.capture.Event.{Event}
+use Rattle.row.specs.declared.profile.Profile.{Profile}
 use Rattle.fields.specs.Fields.{fieldsOf, dataOf}
 use Rattle.fields.specs.declared.fields.Brought as fields
 use Rattle.fields.specs.declared.fields.Brought.the-variants as brought
+use Rattle.tracker.specs.Tracker.{freshTracker}
 use Rattle.tracker.specs.Feed.{BroughtAnswer, answersFed}
 use Rattle.tracker.specs.declared.tracker.Tracker.{Tracker}
 use Rattle.tracker.specs.declared.capture.CaptureFed.{CaptureFed}
@@ -40,6 +42,10 @@ broughtAt capture e = broughtAs (e .kind) (bytesAt capture (e .at) (e .length))
 -- what the answer frames of a capture bring, in order
 abbrev pub broughtBy : List ℕ → List BroughtAnswer
 broughtBy capture = inOrder (broughtAt capture) (eventsFrom Answer capture 0)
+
+-- "Made new for one profile", and fed a capture alone
+abbrev pub trackedBy : Profile → List ℕ → Tracker
+trackedBy profile capture = answersFed (freshTracker profile) (broughtBy capture)
 
 abbrev pub captureFed : Tracker → List ℕ → CaptureFed
 captureFed t capture =

@@ -12,6 +12,7 @@ use Rattle.frame.specs.declared.capture.Kind.the-variants as kind
 use Rattle.frame.specs.declared.capture.Next.the-variants as next
 use Rattle.tracker.specs.Feed.{BroughtAnswer, answersFed}
 use Rattle.tracker.specs.Capture.{broughtAt, broughtBy, captureFed}
+use Rattle.tracker.specs.Numbers.{captureNumber}
 use Rattle.tracker.specs.declared.tracker.Tracker.{Tracker}
 use Rattle.tracker.specs.declared.capture.CaptureAnswer.the-variants as answer
 
@@ -36,6 +37,8 @@ pub record BroughtPromise : Type 0 where
       → (a : BroughtAnswer) × (broughtAt capture (event at n kind.Frame) ≡ a ∷ []) × (frameOf Answer (a .zone) (a .command) (a .answer) (a .body) ≡ bytesAt capture at n)
 
 pub record CaptureFedPromise (t : Tracker) (capture : List ℕ) : Type 0 where
-  pub fed : length capture ≤ captureLimit → (captureFed t capture .tracker ≡ answersFed t (broughtBy capture)) × (captureFed t capture .answer ≡ answer.Fed)
-  pub long : captureLimit < length capture → (captureFed t capture .tracker ≡ t) × (captureFed t capture .answer ≡ answer.Refused 11)
+  pub fed : length capture ≤ captureLimit
+      → (captureFed t capture .tracker ≡ answersFed t (broughtBy capture)) × (captureFed t capture .answer ≡ answer.Fed) × (captureNumber (captureFed t capture .answer) ≡ 0)
+  pub long : captureLimit < length capture
+      → (captureFed t capture .tracker ≡ t) × (captureFed t capture .answer ≡ answer.Refused 11) × (captureNumber (captureFed t capture .answer) ≡ 11)
   pub profile : captureFed t capture .tracker .profile ≡ t .profile

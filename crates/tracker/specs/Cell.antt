@@ -1,4 +1,5 @@
--- Document 01, 'Tracker': "It holds one byte or unknown per row and zone, S 0F left out."
+-- Document 01, 'Tracker': "It holds one byte or unknown per row and zone": the number of the cell of a row and zone. Any row has
+-- one: "S 0F left out" is said where a cell is shown (`keptAt`) and where it is made known (`madeKnown`).
 use Prim.Native.Nat.{ℕ, _+_, _-_, _*_}
 use Rattle.row.specs.Table.{rowCount}
 use Rattle.row.specs.declared.table.Row.{Row}

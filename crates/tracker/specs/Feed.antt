@@ -15,7 +15,7 @@ use Rattle.message.specs.declared.read.Reading.the-variants as reading
 use Rattle.tracker.specs.Cell.{cellOf}
 use Rattle.tracker.specs.Tracker.{knownState}
 use Rattle.tracker.specs.declared.tracker.Tracker.{Tracker}
-use Rattle.tracker.specs.declared.feed.Fed.{Fed}
+use Rattle.tracker.specs.declared.feed.AnswerFed.{AnswerFed}
 
 -- "makes its one cell known": but for S 0F, the row of pairs
 abbrev pub madeKnown : Tracker → ℕ → Judged → ℕ → Tracker
@@ -31,7 +31,7 @@ told t (reading.Message (message.Denied d)) b = t
 told t (reading.Message (message.Command s)) b = t
 told t (reading.Refused n) b = t
 
-abbrev pub answerFed : Tracker → ℕ → ℕ → ℕ → List ℕ → Fed
+abbrev pub answerFed : Tracker → ℕ → ℕ → ℕ → List ℕ → AnswerFed
 answerFed t zone command ac body =
     let r = readOf (t .profile) direction.Answer zone command ac body in
     record { tracker = told t r (getD body 0 0); reading = r }

@@ -7,5 +7,6 @@ pub mod Capture
 pub mod Numbers
 pub mod CellPromise
 pub mod FeedPromise
+pub mod FeedRefusalPromise
 pub mod HistoryPromise
 pub mod CaptureFedPromise

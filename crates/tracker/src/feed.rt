@@ -14,26 +14,26 @@ ghost use Rattle.message.specs.declared.read.Reading.the-variants as reading;
 ghost use Rattle.tracker.specs.Feed.{madeKnown, told, answerFed};
 
 // A tracker once it was fed, and what was fed: the message, or the number of the refusal.
-pub struct Fed {
+pub struct AnswerFed {
     pub tracker: Tracker,
     pub reading: Reading,
 }
 
 // Feeds what an answer's frame brings, read under the tracker's own profile.
-pub fn after_answer(tracker: Tracker, zone: u8, command: u8, answer: u8, body: &[u8]) -> Fed
+pub fn after_answer(tracker: Tracker, zone: u8, command: u8, answer: u8, body: &[u8]) -> AnswerFed
     ensures { λ r. ⌜ r ≡ answerFed tracker zone command answer (now (body .entry)) ⌝ }
 {
     let profile = tracker.profile;
     let reading = read_message(profile, Direction::Answer, zone, command, answer, body);
     let Reading::Message(message) = reading else {
-        return Fed {
+        return AnswerFed {
             tracker: tracker,
             reading: reading,
         };
     };
     let byte = first_byte(body);
     let next = with_message(tracker, message, byte);
-    Fed {
+    AnswerFed {
         tracker: next,
         reading: Reading::Message(message),
     }

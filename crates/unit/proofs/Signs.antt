@@ -24,7 +24,7 @@ use Rattle.tracker.specs.CellPromise.{HasCell}
 use Rattle.tracker.specs.Tracker.{freshTracker, keptIn}
 use Rattle.tracker.specs.Feed.{BroughtAnswer, answersFed}
 use Rattle.tracker.specs.HistoryPromise.{IsStatus, Last, HistoryPromise}
-use Rattle.tracker.specs.Capture.{broughtBy}
+use Rattle.tracker.specs.Capture.{broughtBy, trackedBy}
 use Rattle.signing.specs.SignPromise.{IsHeld}
 use Rattle.tracker.specs.declared.tracker.Tracker.{Tracker}
 use Rattle.tracker.specs.declared.tracker.Kept.the-variants.{Value}
@@ -43,7 +43,7 @@ use Rattle.unit.specs.Legal.{Legal}
 use Rattle.lists.specs.Each.{Each}
 use Rattle.unit.specs.Sending.{Bytes, settingOf, sending, sendings}
 use Rattle.unit.specs.Demand3.{stopped}
-use Rattle.unit.specs.TruthPromise.{tracked, SignedSending}
+use Rattle.unit.specs.TruthPromise.{SignedSending}
 use Rattle.unit.proofs.Flush.{Within, opened, zero-nearer, quiet}
 use Rattle.unit.proofs.Moments.{always-last, always-take}
 use Rattle.unit.proofs.Sendings.{near-more, Good, Wanted, sent-good, wanted, start-good, lines}
@@ -201,7 +201,7 @@ module _ (t : Tracker) (now : Settings) (true-now : (zone command b : ℕ) → k
 
 signs-full : (profile : Profile) (s : Settings) (before : List ℕ) (sheet : List Line) (cuts : List ℕ)
     → Legal profile s → Bytes before → sheetVerdict profile sheet ≡ verdict.Accepted
-    → signOff (tracked profile (replies (stopped profile s before) (sendings cuts (runOf sheet)))) sheet ≡ Yes
+    → signOff (trackedBy profile (replies (stopped profile s before) (sendings cuts (runOf sheet)))) sheet ≡ Yes
 unfolding runOf
 signs-full profile s before sheet cuts legal bytes accepted =
     let f = fit profile [] sheet (sheet-promise profile sheet .only accepted .1) in
@@ -211,7 +211,7 @@ signs-full profile s before sheet cuts legal bytes accepted =
     let good = start-good flush (omega arith) profile s before sheet cuts bytes (f .legal) (f .apart) in
     let w = lines flush (omega arith) profile s before sheet cuts bytes (f .legal) (f .apart) in
     let ends = all-sendings profile s want flush (omega arith) sheet w (f .legal) cuts u good in
-    let t = tracked profile (replies u sent) in
+    let t = trackedBy profile (replies u sent) in
     let known = subst (λ (fs : List BroughtAnswer). Each (λ (l : Line). (b : ℕ) × (keptIn (answersFed (freshTracker profile) fs) (l .zone) (l .command) ≡ Value b)) sheet) (sym (ends .1)) (all-known profile s legal (ends .0) sheet (f .legal)) in
     let full = demand-3 .holds profile s before sheet cuts bytes accepted .full in
     sign-promise t sheet .yes (its-verdict profile (broughtBy (replies u sent)) sheet ∙ accepted)

@@ -24,7 +24,7 @@ use Rattle.tracker.specs.Tracker.{freshTracker, keptIn}
 use Rattle.tracker.specs.Feed.{answerFed, BroughtAnswer, answersFed}
 use Rattle.tracker.specs.FeedPromise.{FeedPromise}
 use Rattle.signing.specs.Sign.{signOff}
-use Rattle.tracker.specs.Capture.{broughtBy}
+use Rattle.tracker.specs.Capture.{broughtBy, trackedBy}
 use Rattle.signing.specs.SignPromise.{IsHeld}
 use Rattle.tracker.specs.declared.tracker.Tracker.{Tracker}
 use Rattle.tracker.specs.declared.tracker.Kept.the-variants as kept
@@ -41,7 +41,7 @@ use Rattle.unit.specs.Legal.{Legal}
 use Rattle.unit.specs.Sending as sending
 use Rattle.lists.specs.Each.{Each}
 use Rattle.lists.proofs.Each.{each-map}
-use Rattle.unit.specs.TruthPromise.{tracked as tracked-by, TruthPromise}
+use Rattle.unit.specs.TruthPromise.{TruthPromise}
 use Rattle.unit.proofs.Acts.{either, Accepted}
 use Rattle.unit.proofs.Answers.{denied-reads, reads-said, which-cell}
 use Rattle.unit.proofs.Streams.{by-frame, unit-promise}
@@ -218,7 +218,7 @@ fresh-true profile s zone command b e = go (cell-or-none profile zone command)
     go (inl h) = absurd (unknown-not (sym (history-promise profile zone command (h .0) (h .1) [] .unknown tt) ∙ e))
     go (inr none) = absurd (no-cell-not b (sym (none-kept (freshTracker profile) zone command none) ∙ e))
 
-pub known-true : (u : Unit) (sent : List ℕ) → Legal (u .profile) (u .settings) → True (tracked-by (u .profile) (replies u sent)) (after u sent .settings)
+pub known-true : (u : Unit) (sent : List ℕ) → Legal (u .profile) (u .settings) → True (trackedBy (u .profile) (replies u sent)) (after u sent .settings)
 known-true u sent legal = true-on u sent legal (freshTracker (u .profile)) (refl, (refl, refl)) (fresh-true (u .profile) (u .settings))
 
 held-by : (t : Tracker) (s : Settings) → True t s → (ls : List Line) → Each (IsHeld t) ls → Each (λ (l : Line). s (sending.settingOf l) ≡ l .value) ls
@@ -233,8 +233,8 @@ truth-promise u sent = record {
       signed legal ls (sym (short (u .profile) ls (replies u sent) (w .0)) ∙ e);
 }
   where
-    signed : Legal (u .profile) (u .settings) → (ls : List Line) → signOff (tracked-by (u .profile) (replies u sent)) ls ≡ Yes
+    signed : Legal (u .profile) (u .settings) → (ls : List Line) → signOff (trackedBy (u .profile) (replies u sent)) ls ≡ Yes
         → Each (λ (l : Line). after u sent .settings (sending.settingOf l) ≡ l .value) ls
     signed legal ls e =
-        held-by (tracked-by (u .profile) (replies u sent)) (after u sent .settings) (known-true u sent legal) ls
-        (sign-promise (tracked-by (u .profile) (replies u sent)) ls .only e .1)
+        held-by (trackedBy (u .profile) (replies u sent)) (after u sent .settings) (known-true u sent legal) ls
+        (sign-promise (trackedBy (u .profile) (replies u sent)) ls .only e .1)

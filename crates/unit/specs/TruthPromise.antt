@@ -12,12 +12,10 @@ use Rattle.sheet.specs.Check.{sheetVerdict}
 use Rattle.sheetfile.specs.Run.{runOf}
 use Rattle.sheet.specs.declared.line.Line.{Line}
 use Rattle.sheet.specs.declared.check.Verdict.the-variants as verdict
-use Rattle.tracker.specs.Tracker.{freshTracker, keptIn}
-use Rattle.tracker.specs.Feed.{answersFed}
+use Rattle.tracker.specs.Tracker.{keptIn}
 use Rattle.signing.specs.Sign.{signOff}
-use Rattle.tracker.specs.Capture.{broughtBy}
+use Rattle.tracker.specs.Capture.{trackedBy}
 use Rattle.signing.specs.Capture.{captureSigned}
-use Rattle.tracker.specs.declared.tracker.Tracker.{Tracker}
 use Rattle.tracker.specs.declared.tracker.Kept.the-variants.{Value}
 use Rattle.signing.specs.declared.sign.Signed.the-variants.{Yes}
 use Rattle.unit.specs.Unit.{value, Settings, Unit, Holds, after, replies}
@@ -26,15 +24,11 @@ use Rattle.lists.specs.Each.{Each}
 use Rattle.unit.specs.Sending.{Bytes, settingOf, sendings}
 use Rattle.unit.specs.Demand3.{stopped}
 
--- the tracker that was made new, and fed what the frames among these bytes bring
-abbrev pub tracked : Profile → List ℕ → Tracker
-tracked profile answers = answersFed (freshTracker profile) (broughtBy answers)
-
 -- the unit after some bytes, and the tracker then
 pub record TruthPromise (u : Unit) (sent : List ℕ) : Type 0 where
-  pub known : Legal (u .profile) (u .settings) → (zone command b : ℕ) → keptIn (tracked (u .profile) (replies u sent)) zone command ≡ Value b
+  pub known : Legal (u .profile) (u .settings) → (zone command b : ℕ) → keptIn (trackedBy (u .profile) (replies u sent)) zone command ≡ Value b
       → Holds (after u sent) (value zone command) b
-  pub signed : Legal (u .profile) (u .settings) → (ls : List Line) → signOff (tracked (u .profile) (replies u sent)) ls ≡ Yes
+  pub signed : Legal (u .profile) (u .settings) → (ls : List Line) → signOff (trackedBy (u .profile) (replies u sent)) ls ≡ Yes
       → Each (λ (l : Line). Holds (after u sent) (settingOf l) (l .value)) ls
   -- the same of the sign-off by a capture of all the answers
   pub captured : Legal (u .profile) (u .settings) → (ls : List Line) → captureSigned (u .profile) ls (replies u sent) ≡ Yes
@@ -43,7 +37,7 @@ pub record TruthPromise (u : Unit) (sent : List ℕ) : Type 0 where
 pub record SignedSending : Type 0 where
   pub signs : (profile : Profile) (s : Settings) (before : List ℕ) (sheet : List Line) (cuts : List ℕ)
       → Legal profile s → Bytes before → sheetVerdict profile sheet ≡ verdict.Accepted
-      → signOff (tracked profile (replies (stopped profile s before) (sendings cuts (runOf sheet)))) sheet ≡ Yes
+      → signOff (trackedBy profile (replies (stopped profile s before) (sendings cuts (runOf sheet)))) sheet ≡ Yes
   -- and so as a capture, where it is within the limit
   pub captured : (profile : Profile) (s : Settings) (before : List ℕ) (sheet : List Line) (cuts : List ℕ)
       → Legal profile s → Bytes before → sheetVerdict profile sheet ≡ verdict.Accepted

@@ -43,11 +43,11 @@ use denote.Triple.Clauses.{ensured, lasts}
 use denote.Exit.{yes}
 use Rattle.tracker.specs.Feed.{answerFed}
 use Rattle.tracker.specs.declared.tracker.Tracker.{Tracker}
-use Rattle.tracker.specs.declared.feed.Fed.{Fed}
+use Rattle.tracker.specs.declared.feed.AnswerFed.{AnswerFed}
 use Rattle.tracker.proofs.tracker.Tracker as T
 use Rattle.tracker.proofs.tracker.Tracker.Laws as T′
-use Rattle.tracker.proofs.feed.Fed as D1
-use Rattle.tracker.proofs.feed.Fed.Laws as D1′
+use Rattle.tracker.proofs.feed.AnswerFed as D1
+use Rattle.tracker.proofs.feed.AnswerFed.Laws as D1′
 use Rattle.message.proofs.read.Reading as D2
 use Rattle.message.proofs.read.Reading.Laws as D2′
 use Rattle.tracker.proofs.feed.after_answer as g
@@ -99,13 +99,13 @@ module _ {M : Type 1} (𝓤 : URA M) (H : Heap 𝓤) (A : Atoms 𝓤) (W : Given
   asked : Is T.the-row h (mach ∷ []) → ent 𝓤 (⋆ 𝓤 H A (‵ (flft κ-body q-body) ∷ ‵ Own-body ∷ [])) (Called 𝓤 H A at-mem run .pre to)
   asked was = qed W (‵ (flft κ-body q-body) ∷ ‵ Own-body ∷ []) ∵ nothing ! $ move ! (2 ∷ 0 ∷ []) $ fjoin ! $ owned ! u8 (Is u8) (uint-makes 𝓤 H A W w8) answer _ is-answer $ fjoin ! $ owned ! u8 (Is u8) (uint-makes 𝓤 H A W w8) command _ is-command $ fjoin ! $ owned ! u8 (Is u8) (uint-makes 𝓤 H A W w8) zone _ is-zone $ fjoin ! $ owned ! T.the-row (Is T.the-row) ((LL.makes T.the-type T′.the-plain) 𝓤 H A) h _ was $ fjoin ! $ nothing ! $ move ! (2 ∷ 0 ∷ []) $ join ! $ join ! $ frame ! $ done !
 
-  said : (r : Fed) → ent 𝓤 (ensured 𝓤 H A g.ended (g.clauses 𝓤 H A at-mem run) (κ-body, tt) (h, (zone, (command, (answer, (ref-body, tt))))) tt r) (fact 𝓤 (r ≡ answerFed h zone command answer body))
+  said : (r : AnswerFed) → ent 𝓤 (ensured 𝓤 H A g.ended (g.clauses 𝓤 H A at-mem run) (κ-body, tt) (h, (zone, (command, (answer, (ref-body, tt))))) tt r) (fact 𝓤 (r ≡ answerFed h zone command answer body))
   said r = exE 𝓤 _ (λ ws. snd∗ 𝓤 (sem 𝓤 H A (lasts g.ended (κ-body, tt) (h, (zone, (command, (answer, (ref-body, tt))))) ws)) (fact 𝓤 (r ≡ answerFed h zone command answer body)))
 
-  exits : (r : Fed) → r ≡ answerFed h zone command answer body → Is D2.the-row (r .reading) (EL.val D2.the-type D2′.the-laws (r .reading) ∷ []) → ent 𝓤 (⋆ 𝓤 H A (‵ (fobs γ (T.the-row .coded .code (r .tracker))) ∷ ‵ (fbor κ (Body (mem T.the-row) b o γ)) ∷ ‵ (flft κ q) ∷ ‵ (flft κ-body q-body) ∷ ‵ Own-body ∷ [])) (Post (EL.val D2.the-type D2′.the-laws (r .reading)))
+  exits : (r : AnswerFed) → r ≡ answerFed h zone command answer body → Is D2.the-row (r .reading) (EL.val D2.the-type D2′.the-laws (r .reading) ∷ []) → ent 𝓤 (⋆ 𝓤 H A (‵ (fobs γ (T.the-row .coded .code (r .tracker))) ∷ ‵ (fbor κ (Body (mem T.the-row) b o γ)) ∷ ‵ (flft κ q) ∷ ‵ (flft κ-body q-body) ∷ ‵ Own-body ∷ [])) (Post (EL.val D2.the-type D2′.the-laws (r .reading)))
   exits r e is₁ =
       qed W (‵ (fobs γ (T.the-row .coded .code (r .tracker))) ∷ ‵ (fbor κ (Body (mem T.the-row) b o γ)) ∷ ‵ (flft κ q) ∷ ‵ (flft κ-body q-body) ∷ ‵ Own-body ∷ []) ∵
-      suffices ! _ (ends-at 𝓤 H A f.ended stayed (f.clauses 𝓤 H A at-mem run) W (((κ, (κ-body, tt)), (q, (q-body, tt)), tt, x, at), tt) (EL.val D2.the-type D2′.the-laws (r .reading)) (r .reading) ((r .tracker), (tt, (tt, (tt, (tt, tt))))) (tt, (tt, (tt, (tt, (tt, tt)))))) $ says-both ! (ap (λ (y : Fed). y .reading) e, ap (λ (y : Fed). y .tracker) e) $
+      suffices ! _ (ends-at 𝓤 H A f.ended stayed (f.clauses 𝓤 H A at-mem run) W (((κ, (κ-body, tt)), (q, (q-body, tt)), tt, x, at), tt) (EL.val D2.the-type D2′.the-laws (r .reading)) (r .reading) ((r .tracker), (tt, (tt, (tt, (tt, tt))))) (tt, (tt, (tt, (tt, (tt, tt)))))) $ says-both ! (ap (λ (y : AnswerFed). y .reading) e, ap (λ (y : AnswerFed). y .tracker) e) $
       nothing ! $ move ! (4 ∷ 0 ∷ []) $ join ! $ move ! (3 ∷ 0 ∷ []) $ join ! $ frame ! $ feqI ! (List Val) (vptr b o ∷ []) (vptr b o ∷ []) refl $ fjoin3 ! $ nothing ! $ move ! (2 ∷ 0 ∷ []) $ fjoin ! $ owned ! u8 (Is u8) (uint-makes 𝓤 H A W w8) answer _ is-answer $ fjoin ! $ owned ! u8 (Is u8) (uint-makes 𝓤 H A W w8) command _ is-command $ fjoin ! $ owned ! u8 (Is u8) (uint-makes 𝓤 H A W w8) zone _ is-zone $ fjoin ! $ move ! (1 ∷ 0 ∷ []) $ fjoin ! $ frame ! $ owned ! D2.the-row (Is D2.the-row) ((EL.makes D2.the-type D2′.the-plain) 𝓤 H A) (r .reading) _ is₁ $ done !
 
   module _ (C : Calls 𝓤 H) (Λ : Loops 𝓤 H) (fm : FmC 𝓤 H (W .laws) C) (known : Triple 𝓤 (C #tracker·feed·after-answer) (Called 𝓤 H A at-mem run)) where
@@ -118,7 +118,7 @@ module _ {M : Type 1} (𝓤 : URA M) (H : Heap 𝓤) (A : Atoms 𝓤) (W : Given
         assigns ! (of-opd ! (load ! (from ! (hop ! (look ! 21 refl) (stop !))) (look-raw ! 0 refl))) (from ! (stop !)) (init ! 9 refl (LL.lawful T.the-type T′.the-laws 𝓤 H A W .typed h _ was .0)) $
         move ! (4 ∷ 7 ∷ []) $ join ! $ use1 W (raw (Called 𝓤 H A at-mem run .pre to)) (asked was) $
         calls-at ! fm (Called 𝓤 H A at-mem run) known to (and-then ! (load ! (from ! (stop !)) (look ! 8 refl)) (and-then ! (load ! (from ! (stop !)) (look ! 18 refl)) (and-then ! (load ! (from ! (stop !)) (look ! 16 refl)) (and-then ! (load ! (from ! (stop !)) (look ! 14 refl)) (and-then ! (load ! (from ! (stop !)) (look ! 12 refl)) (no-more !)))))) (λ u.
-        use1 W (later (some (λ (r : Fed). ((‵ (flft κ-body q-body) ⊛ ‵ ftrue) ⊛ ‵ (D1.the-row .own r (u ∷ []))) ⊛ raw (ensured 𝓤 H A g.ended (g.clauses 𝓤 H A at-mem run) (κ-body, tt) (h, (zone, (command, (answer, (ref-body, tt))))) tt r)))) (id⊢ 𝓤 _) $ await ! tt $ pick ! (λ r.
+        use1 W (later (some (λ (r : AnswerFed). ((‵ (flft κ-body q-body) ⊛ ‵ ftrue) ⊛ ‵ (D1.the-row .own r (u ∷ []))) ⊛ raw (ensured 𝓤 H A g.ended (g.clauses 𝓤 H A at-mem run) (κ-body, tt) (h, (zone, (command, (answer, (ref-body, tt))))) tt r)))) (id⊢ 𝓤 _) $ await ! tt $ pick ! (λ r.
         split ! $ move ! (1 ∷ []) $ use1 W (raw (fact 𝓤 (r ≡ answerFed h zone command answer body))) (said r) $ heard ! (r ≡ answerFed h zone command answer body) (λ e. split ! $ split ! $ move ! (1 ∷ []) $ drop ! $ move ! (1 ∷ []) $
         peeks ! D1.the-row (Is D1.the-row) (shows 𝓤 H A D1.the-row) r (u ∷ []) (λ is. drop ! $
         let parts = LL.owed D1.the-type D1′.the-laws r _ is in let is₀ : Is T.the-row (r .tracker) (LL.val T.the-type T′.the-laws (r .tracker) ∷ []) = parts .0 in let is₁ : Is D2.the-row (r .reading) (EL.val D2.the-type D2′.the-laws (r .reading) ∷ []) = parts .1 .0 in
