@@ -10,7 +10,7 @@ use Rattle.frame.specs.Reader.{answers, takenBy}
 use Rattle.frame.specs.KeptReader.{freshReader, nextReader, byteAnswer, answersOf, readerAfter}
 use Rattle.frame.specs.Capture.{kindNumber, settles, settled, labels, count, partOf}
 use Rattle.frame.specs.PartPromise.{fedInParts, addedUp, PartPromise}
-use Rattle.lists.specs.InOrder.{joined}
+use Rattle.lists.specs.InOrder.{joined, inOrder}
 use Rattle.streams.proofs.Cut.{answers-append, reader-append, cut-promise}
 use Rattle.lists.proofs.InOrder.{in-order-append}
 use Rattle.frame.specs.declared.direction.Direction.{Direction}
@@ -22,7 +22,6 @@ use Rattle.frame.specs.declared.capture.Kind.{Kind}
 use Rattle.frame.specs.declared.capture.Kind.the-variants.{Frame, Broken, Noise, Pending}
 use Rattle.frame.proofs.Labels.{count-append, count-replicate}
 use Rattle.frame.proofs.Means.{reader-promise}
-use Rattle.lists.specs.InOrder.{inOrder}
 
 settled-append : (as′ bs : List ByteAnswer) → settled (as′ ++ bs) ≡ settled as′ ++ settled bs
 settled-append as′ bs = in-order-append settles as′ bs

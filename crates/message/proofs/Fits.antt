@@ -5,7 +5,7 @@ use Rattle.frame.specs.declared.direction.Direction.{Direction}
 use Rattle.frame.specs.declared.direction.Direction.the-variants.{Command, Answer}
 use Rattle.row.specs.declared.table.Row.{Row}
 use Rattle.judging.specs.Judge.{isSetting, isAnswer}
-use Rattle.message.specs.Content.{isOff, numberCode}
+use Rattle.message.specs.Content.{isLevellerOff, numberCode}
 use Rattle.message.specs.declared.content.Content.{Content}
 use Rattle.message.specs.declared.content.Content.the-variants.{Request, Up, Down, On, Off, Toggle, LevellerOff, Number, Input}
 use Rattle.message.specs.declared.content.Encoded.{Encoded}
@@ -20,7 +20,7 @@ inCommand Command t = t
 inCommand Answer t = false
 
 abbrev pub codeFits : Direction → Row → Encoded → Bool
-codeFits dir row (One c) = valueByte dir row c && not (isOff row c)
+codeFits dir row (One c) = valueByte dir row c && not (isLevellerOff row c)
 codeFits dir row (Two b c) = false
 codeFits dir row NoCode = false
 

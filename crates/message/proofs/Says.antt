@@ -12,7 +12,7 @@ use Rattle.frame.specs.declared.direction.Direction.the-variants.{Command, Answ
 use Rattle.frame.proofs.Cases.{cases}
 use Rattle.row.specs.declared.table.Row.{Row}
 use Rattle.judging.specs.Judge.{isAnswer, isPair, isWord, hasLength, hasByte, hasValue, hasData}
-use Rattle.message.specs.Content.{wordOf, isOff, numberIn, valueContent, byteContent, contentOf, encodedOf, encodedData}
+use Rattle.message.specs.Content.{wordOf, isLevellerOff, numberIn, valueContent, byteContent, contentOf, encodedOf, encodedData}
 use Rattle.message.proofs.Fits.{valueByte, fits}
 use Rattle.message.specs.declared.content.Content.{Content}
 use Rattle.message.specs.declared.content.Content.the-variants.{Up, Down, On, Off, LevellerOff, Number}
@@ -45,15 +45,15 @@ module _ (row : Row) where
       (λ t e. let z : false ≡ true = rw (f0, f1, f2, t) at e in (cc, cc)))))
 
   value-says : (dir : Direction) → Tidy dir row → (b : ℕ) → valueByte dir row b ≡ true → Says dir row (b ∷ []) (valueContent row b)
-  value-says dir tidy b v = cases (Says dir row (b ∷ [])) (isOff row b) off number
+  value-says dir tidy b v = cases (Says dir row (b ∷ [])) (isLevellerOff row b) off number
     where
-      off : isOff row b ≡ true → Says dir row (b ∷ []) LevellerOff
+      off : isLevellerOff row b ≡ true → Says dir row (b ∷ []) LevellerOff
       off e =
           let (last, marked) = both (eqb b 0xFF) (row .off) e in
           let here = eqb-true b 0xFF last in
           (cc, rw here)
 
-      number : isOff row b ≡ false → Says dir row (b ∷ []) (Number (numberIn row b))
+      number : isLevellerOff row b ≡ false → Says dir row (b ∷ []) (Number (numberIn row b))
       number e =
           let code = number-coded (row .signed) b (tidy .byte b v) (tidy .no-minus-zero b v) in
           (rw (code, v, e), rw code)

@@ -13,7 +13,7 @@ use Rattle.row.specs.declared.signed.Coded.{Coded}
 use Rattle.row.specs.declared.signed.Coded.the-variants as coded
 use Rattle.row.specs.declared.table.Row.{Row}
 use Rattle.judging.specs.Judge.{isWord, hasLength, hasValue, hasData}
-use Rattle.message.specs.Content.{wordOf, isOff, numberIn, valueContent, byteContent, contentOf, encodedOf, encodedCode, encodedData, sizeOf, formNumber, isForm}
+use Rattle.message.specs.Content.{wordOf, isLevellerOff, numberIn, valueContent, byteContent, contentOf, encodedOf, encodedCode, encodedData, sizeOf, formNumber, isForm}
 use Rattle.message.specs.declared.content.Content.{Content}
 use Rattle.message.specs.declared.content.Content.the-variants.{Request, Up, Down, On, Off, Toggle, LevellerOff, Number, Input}
 use Rattle.message.proofs.Tests.{both}
@@ -53,7 +53,7 @@ module _ (row : Row) (b : ℕ) where
   Its c = formNumber c ≡ 7 → c ≡ Number (numberIn row b)
 
   value-number : Its (valueContent row b)
-  value-number = cases Its (isOff row b) (λ f e. absurd (omega arith)) (λ f e. refl)
+  value-number = cases Its (isLevellerOff row b) (λ f e. absurd (omega arith)) (λ f e. refl)
 
   byte-number : (dir : Direction) → Its (byteContent dir row b)
   byte-number Command = cases Its (isWord row b) (λ f e. absurd (word-no-number row b e)) (λ f. value-number)

@@ -25,15 +25,15 @@ wordOf row b =
     (cond (eqb b 0xF1) (cond (row .switch) On Up) (cond (row .switch) Off Down)))
 
 -- A 39: "FF off"
-abbrev pub isOff : Row → ℕ → Bool
-isOff row b = eqb b 0xFF && row .off
+abbrev pub isLevellerOff : Row → ℕ → Bool
+isLevellerOff row b = eqb b 0xFF && row .off
 
 -- the number that a code means in a row: signed "in the rows marked signed"
 abbrev pub numberIn : Row → ℕ → ℤ
 numberIn row b = cond (row .signed) (numberOf b) (pos b)
 
 abbrev pub valueContent : Row → ℕ → Content
-valueContent row b = cond (isOff row b) LevellerOff (Number (numberIn row b))
+valueContent row b = cond (isLevellerOff row b) LevellerOff (Number (numberIn row b))
 
 -- what one byte says, and what data of one byte or two say
 abbrev pub byteContent : Direction → Row → ℕ → Content

@@ -8,7 +8,7 @@ ghost use mathlib.Core.Bool.{cond};
 ghost use Prim.Native.Nat.{_<_};
 ghost use lib.ListN.{length};
 ghost use Rattle.judging.specs.Judge.{isWord};
-ghost use Rattle.message.specs.Content.{wordOf, isOff, valueContent, byteContent, contentOf, encodedCode, numberCode, encodedOf, sizeOf, formNumber, isSaid, isForm};
+ghost use Rattle.message.specs.Content.{wordOf, isLevellerOff, valueContent, byteContent, contentOf, encodedCode, numberCode, encodedOf, sizeOf, formNumber, isSaid, isForm};
 
 // What the data of a message say, in the words of document 01.
 pub enum Content {
@@ -109,7 +109,7 @@ fn value_content(row: Row, code: u8) -> Content
 }
 
 fn is_off(row: Row, code: u8) -> bool
-    ensures { λ r. ⌜ r ≡ isOff row code ⌝ }
+    ensures { λ r. ⌜ r ≡ isLevellerOff row code ⌝ }
 {
     if code != 0xFF {
         return false;

@@ -16,7 +16,7 @@ use Rattle.row.specs.declared.table.Row.{Row}
 use Rattle.row.specs.declared.table.Found.{Found}
 use Rattle.row.specs.declared.table.Found.the-variants as found
 use Rattle.judging.specs.Judge.{isSetting, isAnswer, isPair, judgeRules}
-use Rattle.message.specs.Content.{isOff, contentOf, encodedOf, numberCode, isForm}
+use Rattle.message.specs.Content.{isLevellerOff, contentOf, encodedOf, numberCode, isForm}
 use Rattle.message.specs.Message.{said, messageIn, readOf}
 use Rattle.message.specs.declared.content.Content.{Content}
 use Rattle.message.specs.declared.content.Content.the-variants.{Request, Up, Down, On, Off, Toggle, LevellerOff, Number, Input}
@@ -32,7 +32,7 @@ use Rattle.message.proofs.Tests.{both, upto, upto-at}
 use Rattle.message.proofs.Tidy.{every, row-passes}
 use Rattle.unit.specs.House.{valueAfter}
 use Rattle.unit.specs.Unit.{Setting, value, input, current, Settings, sameSetting, put, named, about, Done, refused, acted, actedIn, doneBy, zoneIn, commandIn, heard, frameDone}
-use Rattle.unit.specs.Legal.{Legal, RowIn}
+use Rattle.unit.specs.Legal.{LegalSettings, RowIn}
 use Rattle.unit.proofs.Tests.{clash, none-of, implies, implied}
 use Rattle.unit.proofs.Houses.{well, house-promise}
 use Rattle.unit.proofs.Cells.{put-same}
@@ -117,7 +117,7 @@ module _ (profile : Profile) (command : ℕ) (row : Row) (there : rowOf profile 
       not-true _ (upto-at 256 (λ b. not (isSetting row b)) (alone .1) b (w .answer-byte b (w .set-answer b e)))
 
   no-code : {X : Type 0} (x : Encoded) → codeFits Command row x ≡ true → X
-  no-code (One c) f = let s = both (isSetting row c) (not (isOff row c)) f .0 in clash (sym (no-setting c s) ∙ s)
+  no-code (One c) f = let s = both (isSetting row c) (not (isLevellerOff row c)) f .0 in clash (sym (no-setting c s) ∙ s)
   no-code (Two b c) f = clash f
   no-code NoCode f = clash f
 
@@ -147,9 +147,9 @@ pub bit-small : (on : Bool) → leb (cond on 0x01 0x00) 1 ≡ true
 bit-small true = refl
 bit-small false = refl
 
-module _ (profile : Profile) (s : Settings) (l : Legal profile s) where
+module _ (profile : Profile) (s : Settings) (l : LegalSettings profile s) where
   -- a row's value in a zone, and an input's, put where they are legal
-  put-value : (zone command v : ℕ) → ((row : Row) → RowIn profile zone command row → row .pair ≡ false → isAnswer row v ≡ true) → Legal profile (put s (value zone command) v)
+  put-value : (zone command v : ℕ) → ((row : Row) → RowIn profile zone command row → row .pair ≡ false → isAnswer row v ≡ true) → LegalSettings profile (put s (value zone command) v)
   put-value zone command v fits = record {
     rows = λ z c row there single. go z c row there single (sameSetting (value zone command) (value z c)) refl;
     inputs = l .inputs;
@@ -163,7 +163,7 @@ module _ (profile : Profile) (s : Settings) (l : Legal profile s) where
           fits row (rw (eqb-true zone z same-zone, eqb-true command c same-command) there) single
       go z c row there single false e = l .rows z c row there single
 
-  put-input : (i v : ℕ) → leb v 1 ≡ true → Legal profile (put s (input i) v)
+  put-input : (i v : ℕ) → leb v 1 ≡ true → LegalSettings profile (put s (input i) v)
   put-input i v small = record {
     rows = l .rows;
     inputs = λ z c row there paired j known. go z c row there paired j known (sameSetting (input i) (input j)) refl;
@@ -187,21 +187,21 @@ module _ (profile : Profile) (s : Settings) (l : Legal profile s) where
     abbrev made : Content → Setting → Settings
     made c x = put s x (valueAfter (a .row) c (s x))
 
-    said-legal : (c : Content) → isForm Command (a .row) c ≡ true → Legal profile (made c (about (a .row) s zone command c))
+    said-legal : (c : Content) → isForm Command (a .row) c ≡ true → LegalSettings profile (made c (about (a .row) s zone command c))
     said-legal c f = go (a .row .pair) refl
       where
-        go : (t : Bool) → a .row .pair ≡ t → Legal profile (made c (about (a .row) s zone command c))
+        go : (t : Bool) → a .row .pair ≡ t → LegalSettings profile (made c (about (a .row) s zone command c))
         go true e =
-            paired-form profile command (a .row) (a .there) e (λ c. Legal profile (made c (about (a .row) s zone command c)))
-            (subst (Legal profile) (sym (put-same s (about (a .row) s zone command Request))) l)
-            (λ i on known. subst (λ (x : Setting). Legal profile (made (Input i on) x)) (sym (about-pair (a .row) s zone command (Input i on) e)) (put-input i (cond on 0x01 0x00) (bit-small on))) c f
+            paired-form profile command (a .row) (a .there) e (λ c. LegalSettings profile (made c (about (a .row) s zone command c)))
+            (subst (LegalSettings profile) (sym (put-same s (about (a .row) s zone command Request))) l)
+            (λ i on known. subst (λ (x : Setting). LegalSettings profile (made (Input i on) x)) (sym (about-pair (a .row) s zone command (Input i on) e)) (put-input i (cond on 0x01 0x00) (bit-small on))) c f
         go false e =
-            subst (λ (x : Setting). Legal profile (made c x)) (sym (about-single (a .row) s zone command c e))
+            subst (λ (x : Setting). LegalSettings profile (made c x)) (sym (about-single (a .row) s zone command c e))
             (put-value zone command (valueAfter (a .row) c (s (value zone command))) (made-legal c f))
 
-pub frame-legal : (profile : Profile) (s : Settings) (bytes : List ℕ) → Legal profile s → Legal profile (frameDone profile s bytes .settings)
+pub frame-legal : (profile : Profile) (s : Settings) (bytes : List ℕ) → LegalSettings profile s → LegalSettings profile (frameDone profile s bytes .settings)
 frame-legal profile s bytes l =
-    either profile s bytes (λ (d : Done). Legal profile (d .settings)) (λ n. l)
+    either profile s bytes (λ (d : Done). LegalSettings profile (d .settings)) (λ n. l)
     (λ a. said-legal profile s l (zoneIn bytes) (commandIn bytes) (dataIn Command bytes) a _ (a .form))
 
 -- no command is about the current input

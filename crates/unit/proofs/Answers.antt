@@ -32,9 +32,9 @@ use Rattle.message.proofs.Tests.{both}
 use Rattle.unit.specs.House.{valueAfter}
 use Rattle.unit.specs.Unit.{Setting, value, input, current, Settings, put, about, shown, Done, refusalCode, acted, zoneIn, commandIn, heard, frameDone}
 use Rattle.lists.proofs.Each.{each-append}
-use Rattle.unit.specs.Legal.{Legal}
-use Rattle.unit.specs.Sending.{Bytes}
-use Rattle.unit.specs.UnitPromise.{Told, Denied, DonePromise}
+use Rattle.unit.specs.Legal.{LegalSettings}
+use Rattle.unit.specs.Sending.{AreBytes}
+use Rattle.unit.specs.UnitPromise.{ToldStatus, ToldDenial, DonePromise}
 use Rattle.unit.proofs.Cells.{cell-self}
 use Rattle.unit.proofs.Houses.{well}
 use Rattle.unit.proofs.Acts.{either, about-pair, about-single, bit-small, paired-form, Accepted, accepted, done-refused, done-acted, made-legal, frame-legal, frame-now}
@@ -69,7 +69,7 @@ together : (s t : Bool) → s ≡ true → t ≡ true → s && t ≡ true
 together s t e f = rw (e, f)
 
 -- a command that was accepted, at legal settings
-module _ (profile : Profile) (s : Settings) (l : Legal profile s) (z k : ℕ) (d : List ℕ) (a : Accepted profile z k d) where
+module _ (profile : Profile) (s : Settings) (l : LegalSettings profile s) (z k : ℕ) (d : List ℕ) (a : Accepted profile z k d) where
   abbrev r : Row
   r = a .row
 
@@ -132,7 +132,7 @@ module _ (profile : Profile) (s : Settings) (l : Legal profile s) (z k : ℕ) (d
   unfolding Shows
   which-cell = shows c (a .form) .1
 
-  told-said : Told profile (said Command r z k d) (acted r s (said Command r z k d))
+  told-said : ToldStatus profile (said Command r z k d) (acted r s (said Command r z k d))
   told-said = record {
     row = r;
     there = a .there;
@@ -143,7 +143,7 @@ module _ (profile : Profile) (s : Settings) (l : Legal profile s) (z k : ℕ) (d
   }
 
   -- and they are bytes
-  shown-bytes : (y : Setting) (w : ℕ) → hasData Answer r (shown y w) ≡ true → Bytes (shown y w)
+  shown-bytes : (y : Setting) (w : ℕ) → hasData Answer r (shown y w) ≡ true → AreBytes (shown y w)
   shown-bytes (value zone command) w h = (well profile k r (a .there) .answer-byte w (both (hasLength Answer r 1) (isAnswer r w) h .1), tt)
   shown-bytes (input i) w h =
       let (paired, rest) = both (r .pair) (leb w 1 && isAnswer r i) (both (r .pair) (isPair r i w) h .1) in
@@ -153,7 +153,7 @@ module _ (profile : Profile) (s : Settings) (l : Legal profile s) (z k : ℕ) (d
 
 -- a frame's promise
 module _ (profile : Profile) (s : Settings) (bytes : List ℕ) where
-  frame-denied : (n : ℕ) → heard profile bytes ≡ reading.Refused n → Denied profile bytes n (frameDone profile s bytes)
+  frame-denied : (n : ℕ) → heard profile bytes ≡ reading.Refused n → ToldDenial profile bytes n (frameDone profile s bytes)
   frame-denied n e =
       let z = zoneIn bytes in
       let k = commandIn bytes in
@@ -164,7 +164,7 @@ module _ (profile : Profile) (s : Settings) (bytes : List ℕ) where
             ∙ answer-reads profile z k (refusalCode n) [] ∙ ap fromReading (denied-reads profile z k n);
       }
 
-  frame-told : Legal profile s → (c : Said) → heard profile bytes ≡ reading.Message (message.Command c) → Told profile c (frameDone profile s bytes)
+  frame-told : LegalSettings profile s → (c : Said) → heard profile bytes ≡ reading.Message (message.Command c) → ToldStatus profile c (frameDone profile s bytes)
   unfolding readOf
   frame-told l c e =
       let z = zoneIn bytes in
@@ -173,8 +173,8 @@ module _ (profile : Profile) (s : Settings) (bytes : List ℕ) where
       let w = was-accepted (judgeRules profile Command z k d) reading.Refused (messageOf profile Command z k 0 d) (reading.Message (message.Command c)) e differ in
       let a = accepted profile z k d (w .0) in
       let means = ap (λ (f : Found). messageIn f (λ row. message.Command (said Command row z k d))) (a .there) in
-      subst (λ (y : Said). Told profile y (frameDone profile s bytes)) (same (sym means ∙ w .1))
-      (subst (Told profile (said Command (a .row) z k d)) (sym (done-acted profile s bytes (w .0) a)) (told-said profile s l z k d a))
+      subst (λ (y : Said). ToldStatus profile y (frameDone profile s bytes)) (same (sym means ∙ w .1))
+      (subst (ToldStatus profile (said Command (a .row) z k d)) (sym (done-acted profile s bytes (w .0) a)) (told-said profile s l z k d a))
     where
       differ : (n : ℕ) → reading.Refused n ≡ reading.Message (message.Command c) → ⊥
       differ n f = let y : _≡_ {A = ℕ} 0 1 = cc in omega arith
@@ -192,15 +192,15 @@ module _ (profile : Profile) (s : Settings) (bytes : List ℕ) where
   }
 
 -- the bytes of an answer's frame
-pub bytes-append : (bs cs : List ℕ) → Bytes bs → Bytes cs → Bytes (bs ++ cs)
+pub bytes-append : (bs cs : List ℕ) → AreBytes bs → AreBytes cs → AreBytes (bs ++ cs)
 bytes-append bs cs h g = each-append (λ (b : ℕ). b < 256) bs cs h g
 
-byte-at : (bs : List ℕ) (i : ℕ) → Bytes bs → getD bs i 0 < 256
+byte-at : (bs : List ℕ) (i : ℕ) → AreBytes bs → getD bs i 0 < 256
 byte-at [] i h = omega arith
 byte-at (b ∷ bs) zero h = h .0
 byte-at (b ∷ bs) (suc i) h = byte-at bs i (h .1)
 
-answer-bytes : (zone command ac : ℕ) (body : List ℕ) → zone < 256 → command < 256 → ac < 256 → length body < 256 → Bytes body → Bytes (frameOf Answer zone command ac body)
+answer-bytes : (zone command ac : ℕ) (body : List ℕ) → zone < 256 → command < 256 → ac < 256 → length body < 256 → AreBytes body → AreBytes (frameOf Answer zone command ac body)
 unfolding frameOf
 answer-bytes zone command ac body z c a n b = (omega arith, (z, (c, (a, (n, bytes-append body (0x0D ∷ []) b (omega arith, tt))))))
 
@@ -213,14 +213,14 @@ shown-short (value zone command) w = omega arith
 shown-short (input i) w = omega arith
 shown-short current w = omega arith
 
-pub frame-bytes : (profile : Profile) (s : Settings) (bytes : List ℕ) → Legal profile s → Bytes bytes → Bytes (frameDone profile s bytes .answer)
+pub frame-bytes : (profile : Profile) (s : Settings) (bytes : List ℕ) → LegalSettings profile s → AreBytes bytes → AreBytes (frameDone profile s bytes .answer)
 frame-bytes profile s bytes l h =
     let z = zoneIn bytes in
     let k = commandIn bytes in
     let d = dataIn Command bytes in
     let small : z < 256 = byte-at bytes 1 h in
     let low : k < 256 = byte-at bytes 2 h in
-    either profile s bytes (λ (x : Done). Bytes (x .answer))
+    either profile s bytes (λ (x : Done). AreBytes (x .answer))
     (λ n. answer-bytes z k (refusalCode n) [] small low (code-small n) (omega arith) tt)
     (λ a.
     let y = x profile s l z k d a (c profile s l z k d a) in

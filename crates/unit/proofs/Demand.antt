@@ -1,6 +1,6 @@
 -- Demand 3, of an accepted sheet.
 use mathlib.Core.Path.{_≡_, refl}
-use mathlib.Core.Bool.{Bool, true, false, _||_}
+use mathlib.Core.Bool.{true, false}
 use mathlib.Core.List.{List, [], _∷_, _++_}
 use native.Mathlib.Omega.{arith}
 use Rattle.row.specs.declared.profile.Profile.{Profile}

@@ -19,7 +19,7 @@ use Rattle.frame.proofs.Header.{header-least, header-most}
 use Rattle.frame.proofs.Taken.{dl-none, dl-more, dl-now, taken-outside, taken-inside, taken-end}
 use Rattle.frame.proofs.Means.{means}
 use Rattle.unit.specs.Unit.{Unit, nothing, byteDone, done}
-use Rattle.unit.specs.Sending.{Bytes}
+use Rattle.unit.specs.Sending.{AreBytes}
 use Rattle.streams.specs.Stream.{readerBy}
 
 -- a reader that stands outside after at most so many zeros
@@ -85,7 +85,7 @@ zero-nearer dir taken k w = by-place dir taken 0 (Within dir k) (λ some. absurd
     go (inl e) some = omega (arith, e, long dir taken 0, w some)
     go (inr e) some = omega (arith, e, long dir taken 0, w some)
 
-pub bytes-within : (dir : Direction) (taken bs : List ℕ) → Bytes bs → Within dir 256 taken → Within dir 256 (takenBy dir taken bs)
+pub bytes-within : (dir : Direction) (taken bs : List ℕ) → AreBytes bs → Within dir 256 taken → Within dir 256 (takenBy dir taken bs)
 unfolding readerBy
 bytes-within dir taken [] h w = w
 bytes-within dir taken (b ∷ bs) h w = bytes-within dir (takenAfter dir taken b) bs (h .1) (byte-within dir taken b (h .0) w)

@@ -21,7 +21,7 @@ use Rattle.row.specs.declared.table.Row.{Row}
 use Rattle.row.specs.declared.table.Found.the-variants as found
 use Rattle.row.proofs.Inverse.{signed-promise}
 use Rattle.judging.specs.Judge.{isSetting, isAnswer, isWord}
-use Rattle.message.specs.Content.{isOff, numberIn, contentOf, encodedOf, encodedData, encodedCode, numberCode, isForm}
+use Rattle.message.specs.Content.{isLevellerOff, numberIn, contentOf, encodedOf, encodedData, encodedCode, numberCode, isForm}
 use Rattle.message.specs.declared.content.Content.{Content}
 use Rattle.message.specs.declared.content.Content.the-variants.{Request, Up, Down, On, Off, Toggle, LevellerOff, Number, Input}
 use Rattle.message.specs.declared.content.Encoded.{Encoded}
@@ -36,7 +36,7 @@ use Rattle.unit.proofs.Tests.{clash, none-of, implies, implied}
 
 -- a step: where the next number has no code among the answers the value is the end; where it has one it is not off
 abbrev isNumber : Row → ℕ → Bool
-isNumber row v = isAnswer row v && not (isOff row v)
+isNumber row v = isAnswer row v && not (isLevellerOff row v)
 
 abbrev hasCode : Row → Encoded → Bool
 hasCode row (One c) = isAnswer row c
@@ -44,7 +44,7 @@ hasCode row (Two b c) = false
 hasCode row NoCode = false
 
 abbrev notOff : Row → Encoded → Bool
-notOff row (One c) = not (isOff row c)
+notOff row (One c) = not (isLevellerOff row c)
 notOff row (Two b c) = true
 notOff row NoCode = true
 
@@ -159,7 +159,7 @@ module _ (profile : Profile) (command : ℕ) (row : Row) (there : rowOf profile 
       go true u f = (λ g. f, λ g. cc)
       go false u f = (λ g. cc, λ g. f)
 
-  step : (move : ℤ → ℤ) (v : ℕ) (End : Type 0) (end : Bool) → isOff row v ≡ false → lands row (numberCode row (move (numberIn row v))) end ≡ true → (end ≡ true → End)
+  step : (move : ℤ → ℤ) (v : ℕ) (End : Type 0) (end : Bool) → isLevellerOff row v ≡ false → lands row (numberCode row (move (numberIn row v))) end ≡ true → (end ≡ true → End)
       → Steps row v (stepped row move v) (move (numberIn row v)) End
   step move v End end off e ends =
       let w = stands (numberCode row (move (numberIn row v))) end e in
@@ -183,7 +183,7 @@ module _ (profile : Profile) (command : ℕ) (row : Row) (there : rowOf profile 
       (implied (isNumber row v) _ (upto-at 256 (stepsDown row) (steps-well s .1) v (well .answer-byte v (n .0))) (is-number v n))
       (λ low w m. leZ-yes (true-so (implied (isNumber row w) _ (upto-at 256 (noLower row v) low w (well .answer-byte w (m .0))) (is-number w m))))
 
-  off : (v : ℕ) → isOff row v ≡ true → (valueAfter row Up v ≡ v) × (valueAfter row Down v ≡ v)
+  off : (v : ℕ) → isLevellerOff row v ≡ true → (valueAfter row Up v ≡ v) × (valueAfter row Down v ≡ v)
   off v e = (rw e, rw e)
 
   not-calculated : (v : ℕ) → isNotCalculated row v ≡ true → (c : Content) → isForm Command row c ≡ true → valueAfter row c v ≡ v
@@ -207,7 +207,7 @@ module _ (profile : Profile) (command : ℕ) (row : Row) (there : rowOf profile 
   set : (v w : ℕ) → isNotCalculated row v ≡ false → isSetting row w ≡ true → valueAfter row (contentOf Command row (w ∷ [])) v ≡ w
   unfolding contentOf
   set v w calculated s =
-      rw (well .set-no-word w s) (cases (λ (c : Content). encodedData (encodedOf row c) ≡ w ∷ [] → valueAfter row c v ≡ w) (isOff row w)
+      rw (well .set-no-word w s) (cases (λ (c : Content). encodedData (encodedOf row c) ≡ w ∷ [] → valueAfter row c v ≡ w) (isLevellerOff row w)
       (λ o e. coded-is (One 0xFF) v w e)
       (λ o e. rw calculated (coded-is (numberCode row (numberIn row w)) v w e))
       (rw (well .set-no-word w s) at says))
@@ -225,10 +225,10 @@ module _ (profile : Profile) (command : ℕ) (row : Row) (there : rowOf profile 
 
   stepped-legal : (move : ℤ → ℤ) (v : ℕ) → isAnswer row v ≡ true → isAnswer row (stepped row move v) ≡ true
   stepped-legal move v a =
-      cases (λ (x : ℕ). isAnswer row x ≡ true) (isOff row v) (λ e. a) (λ e. landed-legal v (numberCode row (move (numberIn row v))) a)
+      cases (λ (x : ℕ). isAnswer row x ≡ true) (isLevellerOff row v) (λ e. a) (λ e. landed-legal v (numberCode row (move (numberIn row v))) a)
 
   coded-legal : (v : ℕ) (x : Encoded) → codeFits Command row x ≡ true → isAnswer row (coded x v) ≡ true
-  coded-legal v (One c) f = well .set-answer c (both (isSetting row c) (not (isOff row c)) f .0)
+  coded-legal v (One c) f = well .set-answer c (both (isSetting row c) (not (isLevellerOff row c)) f .0)
   coded-legal v (Two b c) f = clash f
   coded-legal v NoCode f = clash f
 

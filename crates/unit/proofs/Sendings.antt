@@ -16,7 +16,7 @@ use Rattle.sheetfile.specs.Run.{lineFrame, framesOf}
 use Rattle.sheet.specs.declared.line.Line.{Line}
 use Rattle.unit.specs.Unit.{Setting, value, Settings, sameSetting, put, Unit, Done, takes, frameDone, after}
 use Rattle.lists.specs.Each.{Each}
-use Rattle.unit.specs.Sending.{Bytes, settingOf, NotOn, Apart, sending, sendings}
+use Rattle.unit.specs.Sending.{AreBytes, settingOf, NotOn, Apart, sending, sendings}
 use Rattle.unit.specs.Demand3.{stopped, Promised}
 use Rattle.unit.specs.SendingPromise.{SendingPromise}
 use Rattle.unit.proofs.Cells.{is-cell, cell-self}
@@ -213,7 +213,7 @@ wanted-other (l ∷ ls) s x n = go (sameSetting (settingOf l) x) refl (wanted-ot
     go false e rest = rest
 
 module _ (zeros : ℕ) (enough : 255 ≤ zeros) (profile : Profile) (s : Settings) (before : List ℕ) (ls : List Line) (cuts : List ℕ)
-    (bytes : Bytes before) (legal : Each (λ (l : Line). isLegal profile l ≡ true) ls) (apart : Apart ls) where
+    (bytes : AreBytes before) (legal : Each (λ (l : Line). isLegal profile l ≡ true) ls) (apart : Apart ls) where
   abbrev want : Settings
   want = wanted ls s
 

@@ -10,7 +10,7 @@ use Rattle.judging.specs.Judge.{isAnswer, isPair, rowJudged}
 use Rattle.judging.specs.declared.judge.Judged.the-variants as judged
 use Rattle.message.proofs.Tests.{both}
 use Rattle.unit.specs.Unit.{Setting, value, input, current, Settings, sameSetting, put}
-use Rattle.unit.specs.Legal.{Legal, RowIn}
+use Rattle.unit.specs.Legal.{LegalSettings, RowIn}
 use Rattle.unit.specs.SettingsPromise.{PutPromise, LegalPromise}
 use Rattle.unit.proofs.Cells.{is-cell, cell-self}
 
@@ -24,10 +24,10 @@ put-promise s x v = record { held = rw (cell-self x); others = λ y apart. go y 
 same-row : (r k : Row) → judged.Legal r ≡ judged.Legal k → r ≡ k
 same-row r k e = cc
 
-pub legal-promise : (profile : Profile) (s : Settings) (legal : Legal profile s) (v : ℕ) → LegalPromise profile s legal v
+pub legal-promise : (profile : Profile) (s : Settings) (legal : LegalSettings profile s) (v : ℕ) → LegalPromise profile s legal v
 legal-promise profile s legal v = record { row-value = row-value; input-value = input-value; current-input = current-input }
   where
-    row-value : (zone command : ℕ) (row : Row) → RowIn profile zone command row → isAnswer row v ≡ true → Legal profile (put s (value zone command) v)
+    row-value : (zone command : ℕ) (row : Row) → RowIn profile zone command row → isAnswer row v ≡ true → LegalSettings profile (put s (value zone command) v)
     row-value zone command row there fits = record {
       rows = λ z c r here plain. go z c r here plain (eqb zone z && eqb command c) refl;
       inputs = legal .inputs;
@@ -44,7 +44,7 @@ legal-promise profile s legal v = record { row-value = row-value; input-value = 
         go z c r here plain false e = legal .rows z c r here plain
 
     input-value : (i : ℕ) → ((zone command : ℕ) (row : Row) → RowIn profile zone command row → row .pair ≡ true → isPair row i v ≡ true)
-        → Legal profile (put s (input i) v)
+        → LegalSettings profile (put s (input i) v)
     input-value i fits = record {
       rows = legal .rows;
       inputs = λ z c r here pair j answer. go z c r here pair j answer (eqb i j) refl;
@@ -57,5 +57,5 @@ legal-promise profile s legal v = record { row-value = row-value; input-value = 
         go z c r here pair j answer false e = legal .inputs z c r here pair j answer
 
     current-input : ((zone command : ℕ) (row : Row) → RowIn profile zone command row → row .pair ≡ true → isAnswer row v ≡ true)
-        → Legal profile (put s current v)
+        → LegalSettings profile (put s current v)
     current-input fits = record { rows = legal .rows; inputs = legal .inputs; now = fits }

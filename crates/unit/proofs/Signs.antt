@@ -39,9 +39,9 @@ use Rattle.sheet.specs.Check.{sheetVerdict}
 use Rattle.sheet.specs.declared.check.Verdict.the-variants as verdict
 use Rattle.sheet.proofs.Sheets.{sheet-promise}
 use Rattle.unit.specs.Unit.{value, Settings, Unit, nothing, Done, done, frameDone, takes, after, replies}
-use Rattle.unit.specs.Legal.{Legal}
+use Rattle.unit.specs.Legal.{LegalSettings}
 use Rattle.lists.specs.Each.{Each}
-use Rattle.unit.specs.Sending.{Bytes, settingOf, sending, sendings}
+use Rattle.unit.specs.Sending.{AreBytes, settingOf, sending, sendings}
 use Rattle.unit.specs.Demand3.{stopped}
 use Rattle.unit.specs.TruthPromise.{SignedSending}
 use Rattle.unit.proofs.Flush.{Within, opened, zero-nearer, quiet}
@@ -159,7 +159,7 @@ message-same (reading.Message x) m e = ap reading.Message (same e)
 message-same (reading.Refused n) m e = let z : _≡_ {A = ℕ} 0 1 = cc in absurd (omega arith)
 
 -- the answer to a legal line is a status of its zone and row
-line-status : (profile : Profile) (s : Settings) → Legal profile s → (l : Line) → isLegal profile l ≡ true → IsStatus profile (l .zone) (l .command) (answerOf l)
+line-status : (profile : Profile) (s : Settings) → LegalSettings profile s → (l : Line) → isLegal profile l ≡ true → IsStatus profile (l .zone) (l .command) (answerOf l)
 unfolding frameOf
 line-status profile s legal l e =
     let told = done-promise profile s (lineFrame l) .told legal _ (reads profile l e) in
@@ -167,7 +167,7 @@ line-status profile s legal l e =
     (refl, refl, (_, message-same (readOf profile Answer (l .zone) (l .command) 0x00 (l .value ∷ [])) _ read))
 
 -- so each line's row and zone are known
-module _ (profile : Profile) (s : Settings) (legal : Legal profile s) where
+module _ (profile : Profile) (s : Settings) (legal : LegalSettings profile s) where
   abbrev Known : List BroughtAnswer → Line → Type 0
   Known fs l = (b : ℕ) × (keptIn (answersFed (freshTracker profile) fs) (l .zone) (l .command) ≡ Value b)
 
@@ -200,7 +200,7 @@ module _ (t : Tracker) (now : Settings) (true-now : (zone command b : ℕ) → k
       (k .0 .1 ∙ ap Value same, all-hold ls (k .1) (h .1))
 
 signs-full : (profile : Profile) (s : Settings) (before : List ℕ) (sheet : List Line) (cuts : List ℕ)
-    → Legal profile s → Bytes before → sheetVerdict profile sheet ≡ verdict.Accepted
+    → LegalSettings profile s → AreBytes before → sheetVerdict profile sheet ≡ verdict.Accepted
     → signOff (trackedBy profile (replies (stopped profile s before) (sendings cuts (runOf sheet)))) sheet ≡ Yes
 unfolding runOf
 signs-full profile s before sheet cuts legal bytes accepted =

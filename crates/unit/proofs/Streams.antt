@@ -22,8 +22,8 @@ use Rattle.fields.proofs.Whole.{whole-is}
 use Rattle.row.specs.declared.profile.Profile.{Profile}
 use Rattle.message.specs.Message.{frameRead}
 use Rattle.unit.specs.Unit.{current, Done, nothing, frameDone, Unit, byteDone, done, takes, after, replies}
-use Rattle.unit.specs.Legal.{Legal}
-use Rattle.unit.specs.Sending.{Bytes}
+use Rattle.unit.specs.Legal.{LegalSettings}
+use Rattle.unit.specs.Sending.{AreBytes}
 use Rattle.unit.specs.UnitPromise.{UnitPromise, HeardPromise}
 use Rattle.unit.proofs.Flush.{by-place}
 use Rattle.unit.proofs.Acts.{frame-legal, frame-now}
@@ -42,22 +42,22 @@ module _ (u : Unit) (b : ℕ) where
       go (Broken n) = still
       go (Frame n) = acts
 
-  byte-legal : Legal (u .profile) (u .settings) → Legal (u .profile) (takes u b .settings)
-  byte-legal l = by-frame (λ (d : Done). Legal (u .profile) (d .settings)) l (frame-legal (u .profile) (u .settings) (u .taken ++ b ∷ []) l)
+  byte-legal : LegalSettings (u .profile) (u .settings) → LegalSettings (u .profile) (takes u b .settings)
+  byte-legal l = by-frame (λ (d : Done). LegalSettings (u .profile) (d .settings)) l (frame-legal (u .profile) (u .settings) (u .taken ++ b ∷ []) l)
 
   byte-now : takes u b .settings current ≡ u .settings current
   byte-now = by-frame (λ (d : Done). d .settings current ≡ u .settings current) refl (frame-now (u .profile) (u .settings) (u .taken ++ b ∷ []))
 
-  byte-answer : Legal (u .profile) (u .settings) → Bytes (u .taken) → b < 256 → Bytes (done u b .answer)
+  byte-answer : LegalSettings (u .profile) (u .settings) → AreBytes (u .taken) → b < 256 → AreBytes (done u b .answer)
   byte-answer l t h =
-      by-frame (λ (d : Done). Bytes (d .answer)) tt
+      by-frame (λ (d : Done). AreBytes (d .answer)) tt
       (frame-bytes (u .profile) (u .settings) (u .taken ++ b ∷ []) l (bytes-append (u .taken) (b ∷ []) t (h, tt)))
 
-  taken-bytes : Bytes (u .taken) → b < 256 → Bytes (takenAfter Command (u .taken) b)
+  taken-bytes : AreBytes (u .taken) → b < 256 → AreBytes (takenAfter Command (u .taken) b)
   taken-bytes t h =
-      by-place Command (u .taken) b Bytes (cases Bytes (eqb b opens) (λ e. (h, tt)) (λ e. tt)) (λ some early. bytes-append (u .taken) (b ∷ []) t (h, tt))
+      by-place Command (u .taken) b AreBytes (cases AreBytes (eqb b opens) (λ e. (h, tt)) (λ e. tt)) (λ some early. bytes-append (u .taken) (b ∷ []) t (h, tt))
 
-stays-legal : (u : Unit) (sent : List ℕ) → Legal (u .profile) (u .settings) → Legal (u .profile) (after u sent .settings)
+stays-legal : (u : Unit) (sent : List ℕ) → LegalSettings (u .profile) (u .settings) → LegalSettings (u .profile) (after u sent .settings)
 unfolding readerBy
 stays-legal u [] l = l
 stays-legal u (b ∷ bs) l = stays-legal (takes u b) bs (byte-legal u b l)
@@ -67,7 +67,7 @@ unfolding readerBy
 stays-now u [] = refl
 stays-now u (b ∷ bs) = stays-now (takes u b) bs ∙ byte-now u b
 
-all-bytes : (u : Unit) (sent : List ℕ) → Legal (u .profile) (u .settings) → Bytes (u .taken) → Bytes sent → Bytes (replies u sent)
+all-bytes : (u : Unit) (sent : List ℕ) → LegalSettings (u .profile) (u .settings) → AreBytes (u .taken) → AreBytes sent → AreBytes (replies u sent)
 unfolding answersBy inOrder
 all-bytes u [] l t h = tt
 all-bytes u (b ∷ bs) l t h =

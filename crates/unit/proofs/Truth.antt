@@ -37,7 +37,7 @@ use Rattle.signing.proofs.Signs.{sign-promise}
 use Rattle.signing.proofs.CaptureSigns.{capture-promise, short}
 use Rattle.unit.specs.House.{valueAfter}
 use Rattle.unit.specs.Unit.{Setting, value, input, Settings, sameSetting, put, Unit, about, shown, Done, refusalCode, refused, acted, zoneIn, commandIn, frameDone, done, takes, after, replies}
-use Rattle.unit.specs.Legal.{Legal}
+use Rattle.unit.specs.Legal.{LegalSettings}
 use Rattle.unit.specs.Sending as sending
 use Rattle.lists.specs.Each.{Each}
 use Rattle.lists.proofs.Each.{each-map}
@@ -162,7 +162,7 @@ module _ (profile : Profile) (t : Tracker) (fit : Fit profile t) (s : Settings) 
       go false q f g = differs (λ w. eqb-false zone z f (w .0))
 
 -- a frame
-module _ (profile : Profile) (s : Settings) (legal : Legal profile s) (t : Tracker) (fit : Fit profile t) (true-before : True t s) (bytes : List ℕ) where
+module _ (profile : Profile) (s : Settings) (legal : LegalSettings profile s) (t : Tracker) (fit : Fit profile t) (true-before : True t s) (bytes : List ℕ) where
   abbrev Heard : Done → Type 0
   Heard d = True (answersFed t (broughtBy (d .answer))) (d .settings)
 
@@ -193,7 +193,7 @@ module _ (profile : Profile) (s : Settings) (legal : Legal profile s) (t : Track
   frame-true = either profile s bytes Heard refused-true acted-true
 
 -- any bytes
-true-on : (u : Unit) (sent : List ℕ) → Legal (u .profile) (u .settings) → (t : Tracker) → Fit (u .profile) t → True t (u .settings)
+true-on : (u : Unit) (sent : List ℕ) → LegalSettings (u .profile) (u .settings) → (t : Tracker) → Fit (u .profile) t → True t (u .settings)
     → True (answersFed t (broughtBy (replies u sent))) (after u sent .settings)
 unfolding answersBy inOrder readerBy answersFed
 true-on u [] legal t fit h = subst (λ (fs : List BroughtAnswer). True (answersFed t fs) (u .settings)) (sym brought-none) h
@@ -218,7 +218,7 @@ fresh-true profile s zone command b e = go (cell-or-none profile zone command)
     go (inl h) = absurd (unknown-not (sym (history-promise profile zone command (h .0) (h .1) [] .unknown tt) ∙ e))
     go (inr none) = absurd (no-cell-not b (sym (none-kept (freshTracker profile) zone command none) ∙ e))
 
-pub known-true : (u : Unit) (sent : List ℕ) → Legal (u .profile) (u .settings) → True (trackedBy (u .profile) (replies u sent)) (after u sent .settings)
+pub known-true : (u : Unit) (sent : List ℕ) → LegalSettings (u .profile) (u .settings) → True (trackedBy (u .profile) (replies u sent)) (after u sent .settings)
 known-true u sent legal = true-on u sent legal (freshTracker (u .profile)) (refl, (refl, refl)) (fresh-true (u .profile) (u .settings))
 
 held-by : (t : Tracker) (s : Settings) → True t s → (ls : List Line) → Each (IsHeld t) ls → Each (λ (l : Line). s (sending.settingOf l) ≡ l .value) ls
@@ -233,7 +233,7 @@ truth-promise u sent = record {
       signed legal ls (sym (short (u .profile) ls (replies u sent) (w .0)) ∙ e);
 }
   where
-    signed : Legal (u .profile) (u .settings) → (ls : List Line) → signOff (trackedBy (u .profile) (replies u sent)) ls ≡ Yes
+    signed : LegalSettings (u .profile) (u .settings) → (ls : List Line) → signOff (trackedBy (u .profile) (replies u sent)) ls ≡ Yes
         → Each (λ (l : Line). after u sent .settings (sending.settingOf l) ≡ l .value) ls
     signed legal ls e =
         held-by (trackedBy (u .profile) (replies u sent)) (after u sent .settings) (known-true u sent legal) ls

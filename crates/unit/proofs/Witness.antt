@@ -25,7 +25,7 @@ use Rattle.sheetfile.specs.Run.{runOf}
 use Rattle.sheet.specs.declared.line.Line.{Line}
 use Rattle.sheet.specs.declared.check.Verdict.the-variants.{Accepted}
 use Rattle.unit.specs.Unit.{Setting, value, input, current, sameSetting, Unit, Holds, frameDone, after}
-use Rattle.unit.specs.Legal.{Legal, RowIn}
+use Rattle.unit.specs.Legal.{LegalSettings, RowIn}
 use Rattle.unit.specs.SettingsPromise.{SomeLegalPromise}
 use Rattle.unit.specs.Sending.{settingOf, NotOn, sending, sendings}
 use Rattle.unit.specs.UnitTablePromise.{zeroSettings}
@@ -47,7 +47,7 @@ zero-fits : every zeroFits table ≡ true
 unfolding table
 zero-fits = refl
 
-pub zeros-legal : (profile : Profile) → Legal profile zeroSettings
+pub zeros-legal : (profile : Profile) → LegalSettings profile zeroSettings
 zeros-legal profile = record {
   rows = λ z c row there single. rw single at (fits z c row there);
   inputs = λ z c row there paired i known. rw (paired, known);

@@ -17,7 +17,7 @@ use Rattle.sheet.specs.declared.line.Line.{Line}
 use Rattle.sheet.specs.declared.check.Verdict.the-variants.{Accepted}
 use Rattle.unit.specs.Unit.{Setting, Settings, Unit, Holds, after}
 use Rattle.lists.specs.Each.{Each}
-use Rattle.unit.specs.Sending.{Bytes, settingOf, NotOn, sendings}
+use Rattle.unit.specs.Sending.{AreBytes, settingOf, NotOn, sendings}
 
 -- "its reader outside any frame or stopped anywhere in an old one": whatever bytes came before
 abbrev pub stopped : Profile → Settings → List ℕ → Unit
@@ -40,5 +40,5 @@ pub record Promised (u : Unit) (ls : List Line) (bytes : List ℕ) : Type 0 wher
 -- "at any legal settings": at any settings at all
 pub record Demand3 : Type 0 where
   pub holds : (profile : Profile) (s : Settings) (before : List ℕ) (sheet : List Line) (cuts : List ℕ)
-      → Bytes before → sheetVerdict profile sheet ≡ Accepted
+      → AreBytes before → sheetVerdict profile sheet ≡ Accepted
       → Promised (stopped profile s before) sheet (sendings cuts (runOf sheet))

@@ -7,7 +7,7 @@ use Rattle.row.specs.Profile.{letterOf}
 use Rattle.row.specs.declared.profile.Profile.the-variants.{A}
 use Rattle.row.specs.declared.table.Row.{Row}
 use Rattle.judging.specs.Judge.{isAnswer}
-use Rattle.message.specs.Content.{isOff, numberIn, numberCode}
+use Rattle.message.specs.Content.{isLevellerOff, numberIn, numberCode}
 use Rattle.message.specs.declared.content.Content.{Content}
 use Rattle.message.specs.declared.content.Content.the-variants.{Request, Up, Down, On, Off, Toggle, LevellerOff, Number, Input}
 use Rattle.message.specs.declared.content.Encoded.{Encoded}
@@ -29,7 +29,7 @@ landed row NoCode v = v
 
 -- "A step moves the value by one, in signed rows the signed value (up from 81 is 00)."; "Leveller off stays off under steps"
 abbrev pub stepped : Row → (ℤ → ℤ) → ℕ → ℕ
-stepped row move v = cond (isOff row v) v (landed row (numberCode row (move (numberIn row v))) v)
+stepped row move v = cond (isLevellerOff row v) v (landed row (numberCode row (move (numberIn row v))) v)
 
 -- a number that is set is set as its code
 abbrev pub coded : Encoded → ℕ → ℕ

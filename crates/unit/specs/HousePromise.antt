@@ -12,14 +12,14 @@ use Rattle.row.specs.declared.profile.Profile.{Profile}
 use Rattle.row.specs.declared.table.Row.{Row}
 use Rattle.row.specs.declared.table.Found.the-variants as found
 use Rattle.judging.specs.Judge.{isSetting, isAnswer}
-use Rattle.message.specs.Content.{isOff, numberIn, contentOf, isForm}
+use Rattle.message.specs.Content.{isLevellerOff, numberIn, contentOf, isForm}
 use Rattle.message.specs.declared.content.Content.{Content}
 use Rattle.message.specs.declared.content.Content.the-variants.{Request, Up, Down, On, Off, Toggle}
 use Rattle.unit.specs.House.{isNotCalculated, valueAfter}
 
 -- a legal value that means a number: any but Leveller's off
 abbrev pub IsNumber : Row → ℕ → Type 0
-IsNumber row v = (isAnswer row v ≡ true) × (isOff row v ≡ false)
+IsNumber row v = (isAnswer row v ≡ true) × (isLevellerOff row v ≡ false)
 
 -- the ends: no value of the row means a greater number, or a lesser
 abbrev pub Highest : Row → ℕ → Type 0
@@ -37,7 +37,7 @@ pub record HousePromise (profile : Profile) (command : ℕ) (row : Row) (there :
   pub up : row .steps ≡ true → (v : ℕ) → IsNumber row v → Steps row v (valueAfter row Up v) (sucℤ (numberIn row v)) (Highest row v)
   pub down : row .steps ≡ true → (v : ℕ) → IsNumber row v → Steps row v (valueAfter row Down v) (predℤ (numberIn row v)) (Lowest row v)
   -- "Leveller off stays off under steps"
-  pub off : (v : ℕ) → isOff row v ≡ true → (valueAfter row Up v ≡ v) × (valueAfter row Down v ≡ v)
+  pub off : (v : ℕ) → isLevellerOff row v ≡ true → (valueAfter row Up v ≡ v) × (valueAfter row Down v ≡ v)
   -- "room EQ not calculated stays so", whatever the command; else "F1 on, F2 off"
   pub not-calculated : (v : ℕ) → isNotCalculated row v ≡ true → (c : Content) → isForm Command row c ≡ true → valueAfter row c v ≡ v
   pub switched : (v : ℕ) → isNotCalculated row v ≡ false → (valueAfter row On v ≡ 0x01) × (valueAfter row Off v ≡ 0x00)

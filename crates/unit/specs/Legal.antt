@@ -12,7 +12,7 @@ use Rattle.unit.specs.Unit.{Settings, value, input, current}
 abbrev pub RowIn : Profile → ℕ → ℕ → Row → Type 0
 RowIn profile zone command row = rowJudged profile zone command ≡ judged.Legal row
 
-pub record Legal (profile : Profile) (s : Settings) : Type 0 where
+pub record LegalSettings (profile : Profile) (s : Settings) : Type 0 where
   pub rows : (zone command : ℕ) (row : Row) → RowIn profile zone command row → row .pair ≡ false → isAnswer row (s (value zone command)) ≡ true
   pub inputs : (zone command : ℕ) (row : Row) → RowIn profile zone command row → row .pair ≡ true
       → (i : ℕ) → isAnswer row i ≡ true → isPair row i (s (input i)) ≡ true

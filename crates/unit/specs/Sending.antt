@@ -10,8 +10,8 @@ use Rattle.sheet.specs.declared.line.Line.{Line}
 use Rattle.unit.specs.Unit.{Setting, value}
 use Rattle.lists.specs.Each.{Each}
 
-abbrev pub Bytes : List ℕ → Type 0
-Bytes bs = Each (λ (b : ℕ). b < 256) bs
+abbrev pub AreBytes : List ℕ → Type 0
+AreBytes bs = Each (λ (b : ℕ). b < 256) bs
 
 -- "each setting on the sheet": a line's zone and row
 abbrev pub settingOf : Line → Setting

@@ -9,12 +9,12 @@ use Rattle.sheet.specs.Line.{isLegal}
 use Rattle.sheet.specs.declared.line.Line.{Line}
 use Rattle.unit.specs.Unit.{Settings}
 use Rattle.lists.specs.Each.{Each}
-use Rattle.unit.specs.Sending.{Bytes, Apart, sending, sendings}
+use Rattle.unit.specs.Sending.{AreBytes, Apart, sending, sendings}
 use Rattle.unit.specs.Demand3.{stopped, Promised}
 
 pub record SendingPromise (zeros : ℕ) : Type 0 where
   pub holds : (profile : Profile) (s : Settings) (before : List ℕ) (ls : List Line) (cuts : List ℕ)
-      → Bytes before → Each (λ (l : Line). isLegal profile l ≡ true) ls → Apart ls
+      → AreBytes before → Each (λ (l : Line). isLegal profile l ≡ true) ls → Apart ls
       → Promised (stopped profile s before) ls (sendings cuts (sending zeros ls))
 
 -- "It holds from 255 zeros on, and not with 254"

@@ -8,11 +8,11 @@ use Rattle.frame.specs.Frame.{dataLimit, header, frameOf}
 use Rattle.frame.specs.declared.direction.Direction.the-variants.{Command}
 use Rattle.row.specs.declared.profile.Profile.{Profile}
 use Rattle.unit.specs.Unit.{Settings}
-use Rattle.unit.specs.Sending.{Bytes}
+use Rattle.unit.specs.Sending.{AreBytes}
 use Rattle.unit.specs.Demand3.{stopped}
 
 pub record StoppedPromise : Type 0 where
   pub anywhere : (profile : Profile) (s : Settings) (zone command : ℕ) (body : List ℕ) (n : ℕ) → n ≤ header Command + length body
       → stopped profile s (take n (frameOf Command zone command 0 body)) .taken ≡ take n (frameOf Command zone command 0 body)
-  pub bytes : (zone command : ℕ) (body : List ℕ) (n : ℕ) → zone < 256 → command < 256 → Bytes body → length body ≤ dataLimit
-      → Bytes (take n (frameOf Command zone command 0 body))
+  pub bytes : (zone command : ℕ) (body : List ℕ) (n : ℕ) → zone < 256 → command < 256 → AreBytes body → length body ≤ dataLimit
+      → AreBytes (take n (frameOf Command zone command 0 body))

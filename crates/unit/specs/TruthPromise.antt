@@ -19,27 +19,27 @@ use Rattle.signing.specs.Capture.{captureSigned}
 use Rattle.tracker.specs.declared.tracker.Kept.the-variants.{Value}
 use Rattle.signing.specs.declared.sign.Signed.the-variants.{Yes}
 use Rattle.unit.specs.Unit.{value, Settings, Unit, Holds, after, replies}
-use Rattle.unit.specs.Legal.{Legal}
+use Rattle.unit.specs.Legal.{LegalSettings}
 use Rattle.lists.specs.Each.{Each}
-use Rattle.unit.specs.Sending.{Bytes, settingOf, sendings}
+use Rattle.unit.specs.Sending.{AreBytes, settingOf, sendings}
 use Rattle.unit.specs.Demand3.{stopped}
 
 -- the unit after some bytes, and the tracker then
 pub record TruthPromise (u : Unit) (sent : List ℕ) : Type 0 where
-  pub known : Legal (u .profile) (u .settings) → (zone command b : ℕ) → keptIn (trackedBy (u .profile) (replies u sent)) zone command ≡ Value b
+  pub known : LegalSettings (u .profile) (u .settings) → (zone command b : ℕ) → keptIn (trackedBy (u .profile) (replies u sent)) zone command ≡ Value b
       → Holds (after u sent) (value zone command) b
-  pub signed : Legal (u .profile) (u .settings) → (ls : List Line) → signOff (trackedBy (u .profile) (replies u sent)) ls ≡ Yes
+  pub signed : LegalSettings (u .profile) (u .settings) → (ls : List Line) → signOff (trackedBy (u .profile) (replies u sent)) ls ≡ Yes
       → Each (λ (l : Line). Holds (after u sent) (settingOf l) (l .value)) ls
   -- the same of the sign-off by a capture of all the answers
-  pub captured : Legal (u .profile) (u .settings) → (ls : List Line) → captureSigned (u .profile) ls (replies u sent) ≡ Yes
+  pub captured : LegalSettings (u .profile) (u .settings) → (ls : List Line) → captureSigned (u .profile) ls (replies u sent) ≡ Yes
       → Each (λ (l : Line). Holds (after u sent) (settingOf l) (l .value)) ls
 
 pub record SignedSending : Type 0 where
   pub signs : (profile : Profile) (s : Settings) (before : List ℕ) (sheet : List Line) (cuts : List ℕ)
-      → Legal profile s → Bytes before → sheetVerdict profile sheet ≡ verdict.Accepted
+      → LegalSettings profile s → AreBytes before → sheetVerdict profile sheet ≡ verdict.Accepted
       → signOff (trackedBy profile (replies (stopped profile s before) (sendings cuts (runOf sheet)))) sheet ≡ Yes
   -- and so as a capture, where it is within the limit
   pub captured : (profile : Profile) (s : Settings) (before : List ℕ) (sheet : List Line) (cuts : List ℕ)
-      → Legal profile s → Bytes before → sheetVerdict profile sheet ≡ verdict.Accepted
+      → LegalSettings profile s → AreBytes before → sheetVerdict profile sheet ≡ verdict.Accepted
       → length (replies (stopped profile s before) (sendings cuts (runOf sheet))) ≤ captureLimit
       → captureSigned profile sheet (replies (stopped profile s before) (sendings cuts (runOf sheet))) ≡ Yes

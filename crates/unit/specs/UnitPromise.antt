@@ -24,12 +24,12 @@ use Rattle.sheetfile.specs.Run.{lineFrame}
 use Rattle.sheet.specs.declared.line.Line.{Line}
 use Rattle.unit.specs.House.{valueAfter}
 use Rattle.unit.specs.Unit.{Holds, Setting, value, input, current, Settings, put, Unit, Done, nothing, shown, refusalCode, zoneIn, commandIn, heard, frameDone, done, takes, after, replies}
-use Rattle.unit.specs.Legal.{Legal}
-use Rattle.unit.specs.Sending.{Bytes, settingOf}
+use Rattle.unit.specs.Legal.{LegalSettings}
+use Rattle.unit.specs.Sending.{AreBytes, settingOf}
 
 -- the answer to a command: its data show a cell as it is after the command, the row's in that zone or an input of S 0F, and the library
 -- reads it as the status of that zone and command
-pub record Told (profile : Profile) (c : Said) (d : Done) : Type 0 where
+pub record ToldStatus (profile : Profile) (c : Said) (d : Done) : Type 0 where
   pub row : Row
   pub there : rowOf profile (c .command) ≡ found.Row row
   pub cell : Setting
@@ -43,7 +43,7 @@ pub record Told (profile : Profile) (c : Said) (d : Done) : Type 0 where
       }))
 
 -- the answer to a refused frame: the number is one of the four, and the library reads the answer as denied
-pub record Denied (profile : Profile) (bytes : List ℕ) (n : ℕ) (d : Done) : Type 0 where
+pub record ToldDenial (profile : Profile) (bytes : List ℕ) (n : ℕ) (d : Done) : Type 0 where
   pub number : (n ≡ 1) ⊎ (n ≡ 2) ⊎ (n ≡ 3) ⊎ (n ≡ 4)
   pub answer : d .answer ≡ frameOf Answer (zoneIn bytes) (commandIn bytes) (refusalCode n) []
   pub denial : frameRead profile Answer (d .answer)
@@ -51,14 +51,14 @@ pub record Denied (profile : Profile) (bytes : List ℕ) (n : ℕ) (d : Done) : 
 
 pub record DonePromise (profile : Profile) (s : Settings) (bytes : List ℕ) : Type 0 where
   -- legal settings stay legal
-  pub legal : Legal profile s → Legal profile (frameDone profile s bytes .settings)
+  pub legal : LegalSettings profile s → LegalSettings profile (frameDone profile s bytes .settings)
   -- "a current input, which nothing here changes"
   pub now : frameDone profile s bytes .settings current ≡ s current
   -- "A refused frame changes nothing"
   pub kept : (n : ℕ) → heard profile bytes ≡ reading.Refused n → frameDone profile s bytes .settings ≡ s
-  pub denied : (n : ℕ) → heard profile bytes ≡ reading.Refused n → Denied profile bytes n (frameDone profile s bytes)
+  pub denied : (n : ℕ) → heard profile bytes ≡ reading.Refused n → ToldDenial profile bytes n (frameDone profile s bytes)
   -- "the answer holds the row's value after it"
-  pub told : Legal profile s → (c : Said) → heard profile bytes ≡ reading.Message (message.Command c) → Told profile c (frameDone profile s bytes)
+  pub told : LegalSettings profile s → (c : Said) → heard profile bytes ≡ reading.Message (message.Command c) → ToldStatus profile c (frameDone profile s bytes)
 
 -- "Otherwise the command acts": which cell it sets, to what its house rule says, and no other; and the bytes of its answer
 pub record ActPromise (profile : Profile) (s : Settings) (bytes : List ℕ) (c : Said) (heard-so : heard profile bytes ≡ reading.Message (message.Command c)) (row : Row)
@@ -90,9 +90,9 @@ pub record LinePromise (profile : Profile) (s : Settings) (l : Line) : Type 0 wh
 
 -- of any bytes sent: the settings stay legal, the current input stays, and the answers are bytes
 pub record UnitPromise (u : Unit) (sent : List ℕ) : Type 0 where
-  pub legal : Legal (u .profile) (u .settings) → Legal (u .profile) (after u sent .settings)
+  pub legal : LegalSettings (u .profile) (u .settings) → LegalSettings (u .profile) (after u sent .settings)
   pub now : Holds (after u sent) current (u .settings current)
-  pub answers : Legal (u .profile) (u .settings) → Bytes (u .taken) → Bytes sent → Bytes (replies u sent)
+  pub answers : LegalSettings (u .profile) (u .settings) → AreBytes (u .taken) → AreBytes sent → AreBytes (replies u sent)
 
 -- a frame that a unit's reader completes is one whole frame, and the unit hears in it what the library reads in it
 pub record HeardPromise (profile : Profile) (before : List ℕ) (b n : ℕ) : Type 0 where

@@ -141,9 +141,9 @@ came t = record {
   now = after (started t) (t .sent) .settings current;
 }
 
-abbrev pub nowHeld : Trial → Outcome
-nowHeld t = record { answered = t .answered; holds = t .holds; now = t .now }
+abbrev pub tabled : Trial → Outcome
+tabled t = record { answered = t .answered; holds = t .holds; now = t .now }
 
 pub record UnitTablePromise : Type 0 where
   pub all : length trials ≡ 61
-  pub holds : map came trials ≡ map nowHeld trials
+  pub holds : map came trials ≡ map tabled trials

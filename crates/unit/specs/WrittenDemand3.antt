@@ -13,7 +13,7 @@ use Rattle.sheetfile.specs.ByLetter.{fileRunAnswered, fileRunLeft}
 use Rattle.sheet.specs.declared.line.Line.{Line}
 use Rattle.sheetfile.specs.declared.write.SheetWritten.the-variants as written
 use Rattle.unit.specs.Unit.{Settings}
-use Rattle.unit.specs.Sending.{Bytes, sendings}
+use Rattle.unit.specs.Sending.{AreBytes, sendings}
 use Rattle.unit.specs.Demand3.{stopped, Promised}
 
 -- the bytes from a place
@@ -22,8 +22,8 @@ placedBytes buf at n = take n (drop at buf)
 
 pub record WrittenDemand3 : Type 0 where
   pub run : (profile : Profile) (s : Settings) (before : List ℕ) (sheet : List Line) (cuts : List ℕ) (buf : List ℕ) (at n : ℕ)
-      → Bytes before → runAnswered profile sheet buf at ≡ written.Bytes n
+      → AreBytes before → runAnswered profile sheet buf at ≡ written.Bytes n
       → Promised (stopped profile s before) sheet (sendings cuts (placedBytes (runLeft profile sheet buf at) at n))
   pub file : (letter : ℕ) (profile : Profile) (s : Settings) (before file : List ℕ) (cuts : List ℕ) (buf : List ℕ) (at n : ℕ)
-      → profileOf letter ≡ named.Profile profile → Bytes before → fileRunAnswered (profileOf letter) file buf at ≡ written.Bytes n
+      → profileOf letter ≡ named.Profile profile → AreBytes before → fileRunAnswered (profileOf letter) file buf at ≡ written.Bytes n
       → Promised (stopped profile s before) (linesIn (records file)) (sendings cuts (placedBytes (fileRunLeft (profileOf letter) file buf at) at n))
