@@ -9,6 +9,7 @@ use crate::out::say_letter;
 use crate::out::say_refused;
 use crate::spaces;
 use frame::direction::Direction;
+use frame::direction::NamedDirection;
 use lent::written::Written;
 use message::content::Content;
 use message::read::Denial;
@@ -16,6 +17,7 @@ use message::read::FrameReading;
 use message::read::Message;
 use message::read::Reading;
 use message::read::Said;
+use row::profile::NamedProfile;
 use row::profile::Profile;
 use row::signed::Coded;
 use row::table::Found;
@@ -43,10 +45,8 @@ pub(crate) fn operate(operation: usize, space: &[u8], ends: [usize; 14]) {
         return;
     }
     match row::profile::profile_of(byte(space, ends, 1)) {
-        row::profile::NamedProfile::Profile(profile) => {
-            profiled(operation, profile, space, ends)
-        }
-        row::profile::NamedProfile::Refused(number) => say_refused(number)
+        NamedProfile::Profile(profile) => { profiled(operation, profile, space, ends) }
+        NamedProfile::Refused(number) => say_refused(number)
     }
 }
 
@@ -77,10 +77,10 @@ fn profiled(operation: usize, profile: Profile, space: &[u8], ends: [usize; 14])
         return;
     }
     match frame::direction::direction_of(byte(space, ends, 2)) {
-        frame::direction::NamedDirection::Direction(direction) => {
+        NamedDirection::Direction(direction) => {
             directed(operation, profile, direction, space, ends)
         }
-        frame::direction::NamedDirection::Refused(number) => say_refused(number)
+        NamedDirection::Refused(number) => say_refused(number)
     }
 }
 

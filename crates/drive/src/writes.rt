@@ -6,12 +6,14 @@ use crate::out::say_letter;
 use crate::sheets;
 use fields::raw::write_raw;
 use frame::direction::Direction;
+use frame::direction::NamedDirection;
 use lent::written::Written;
 use message::read::Denial;
 use message::read::Message;
 use message::read::Said;
 use message::write::write_fields;
 use message::write::write_message;
+use row::profile::NamedProfile;
 use row::profile::Profile;
 use sheetfile::write::SheetWritten;
 use words::arguments::argument;
@@ -128,16 +130,14 @@ fn write(
         return raw(space, ends, buf, spot);
     }
     match row::profile::profile_of(byte(space, ends, 1)) {
-        row::profile::NamedProfile::Profile(profile) => {
-            profiled(operation, profile, space, ends, buf, spot)
-        }
-        row::profile::NamedProfile::Refused(number) => Written::Refused(number),
+        NamedProfile::Profile(profile) => { profiled(operation, profile, space, ends, buf, spot) }
+        NamedProfile::Refused(number) => Written::Refused(number),
     }
 }
 
 fn raw(space: &[u8], ends: [usize; 14], buf: &mut [u8], spot: usize) -> Written {
     match frame::direction::direction_of(byte(space, ends, 1)) {
-        frame::direction::NamedDirection::Direction(direction) => {
+        NamedDirection::Direction(direction) => {
             let body = argument(space, ends, 7);
             write_raw(
                 direction,
@@ -149,7 +149,7 @@ fn raw(space: &[u8], ends: [usize; 14], buf: &mut [u8], spot: usize) -> Written 
                 body,
             )
         }
-        frame::direction::NamedDirection::Refused(number) => Written::Refused(number),
+        NamedDirection::Refused(number) => Written::Refused(number),
     }
 }
 
@@ -167,10 +167,8 @@ fn profiled(
         return write_message(profile, buf, spot, message, body);
     }
     match frame::direction::direction_of(byte(space, ends, 2)) {
-        frame::direction::NamedDirection::Direction(direction) => {
-            send(profile, direction, space, ends, buf, spot)
-        }
-        frame::direction::NamedDirection::Refused(number) => Written::Refused(number),
+        NamedDirection::Direction(direction) => { send(profile, direction, space, ends, buf, spot) }
+        NamedDirection::Refused(number) => Written::Refused(number),
     }
 }
 

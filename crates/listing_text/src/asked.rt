@@ -1,7 +1,9 @@
 // What an input of the listing program asks for.
 use frame::capture::CAPTURE_LIMIT;
 use frame::direction::Direction;
+use frame::direction::NamedDirection;
 use frame::direction::direction_of;
+use row::profile::NamedProfile;
 use row::profile::Profile;
 use row::profile::profile_of;
 ghost use mathlib.Core.Path.{_≡_};
@@ -23,12 +25,8 @@ pub fn what_is_asked(input: &[u8]) -> Asked
         return Asked::Refused(12);
     }
     match profile_of(input[0]) {
-        row::profile::NamedProfile::Profile(profile) => asked_of(
-            profile,
-            input[1],
-            input.len() - 2,
-        ),
-        row::profile::NamedProfile::Refused(number) => Asked::Refused(number),
+        NamedProfile::Profile(profile) => asked_of(profile, input[1], input.len() - 2),
+        NamedProfile::Refused(number) => Asked::Refused(number),
     }
 }
 
@@ -36,12 +34,12 @@ fn asked_of(profile: Profile, letter: u8, count: usize) -> Asked
     ensures { λ r. ⌜ r ≡ askedBy (family.Profile profile) (directionOf letter) count ⌝ }
 {
     match direction_of(letter) {
-        frame::direction::NamedDirection::Direction(direction) => {
+        NamedDirection::Direction(direction) => {
             if count > CAPTURE_LIMIT {
                 return Asked::Refused(11);
             }
             Asked::Listing(profile, direction)
         }
-        frame::direction::NamedDirection::Refused(number) => Asked::Refused(number),
+        NamedDirection::Refused(number) => Asked::Refused(number),
     }
 }
