@@ -128,7 +128,8 @@ fn put_next(
     at: usize,
 ) -> Turn
     requires { ⌜ (at + lineLimit ≤ length (now buf)) × (length (now capture) ≤ captureLimit) ⌝ }
-    ensures { λ r. ⌜ (Put lineLimit (now (buf .entry)) at (firstText (comingFrom profile direction (now (capture .entry)) next)) (now (buf .exit)) (r .at)) × (r .next ≡ firstNext next (comingFrom profile direction (now (capture .entry)) next)) ⌝ }
+    ensures puts { λ r. ⌜ Put lineLimit (now (buf .entry)) at (firstText (comingFrom profile direction (now (capture .entry)) next)) (now (buf .exit)) (r .at) ⌝ }
+    ensures next { λ r. ⌜ r .next ≡ firstNext next (comingFrom profile direction (now (capture .entry)) next) ⌝ }
 {
     match next {
         Place::Start => {
@@ -156,7 +157,8 @@ fn put_from(
     at: usize,
 ) -> Turn
     requires { ⌜ (at + lineLimit ≤ length (now buf)) × (length (now capture) ≤ captureLimit) ⌝ }
-    ensures { λ r. ⌜ (Put lineLimit (now (buf .entry)) at (firstText (comingEvents profile direction (now (capture .entry)) (eventsFrom direction (now (capture .entry)) from))) (now (buf .exit)) (r .at)) × (r .next ≡ firstNext (place.Event from) (comingEvents profile direction (now (capture .entry)) (eventsFrom direction (now (capture .entry)) from))) ⌝ }
+    ensures puts { λ r. ⌜ Put lineLimit (now (buf .entry)) at (firstText (comingEvents profile direction (now (capture .entry)) (eventsFrom direction (now (capture .entry)) from))) (now (buf .exit)) (r .at) ⌝ }
+    ensures next { λ r. ⌜ r .next ≡ firstNext (place.Event from) (comingEvents profile direction (now (capture .entry)) (eventsFrom direction (now (capture .entry)) from)) ⌝ }
 {
     let found = next_event(direction, capture, from);
     let Next::Event(event) = found else {
