@@ -118,10 +118,10 @@ function trial(text, name, parts, count, i, at, profile, cell, given) {
 { line = plain($0) }
 
 # the settings that the second program's trials begin at
-/^zeros / {
-    if (line != "zeros (value zone command) = 00" && line != "zeros (input i) = 00" && line != "zeros current = 01")
+/^zeroSettings / {
+    if (line != "zeroSettings (value zone command) = 00" && line != "zeroSettings (input i) = 00" && line != "zeroSettings current = 01")
         wrong("a trial begins at other settings")
-    zeros++
+    zeroSettings++
     next
 }
 
@@ -155,5 +155,5 @@ inside {
 END {
     if (bad) exit 1
     if (!ended) wrong("the table has no end")
-    if (zeros != 3) wrong("the settings that a trial begins at are not found")
+    if (zeroSettings != 3) wrong("the settings that a trial begins at are not found")
 }
