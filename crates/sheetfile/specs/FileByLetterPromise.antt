@@ -1,4 +1,4 @@
--- Promise: what the doors of plain bytes say of a sheet's file is what the doors of lines say of its lines; and 12, "before all
+-- Promise: what the doors by letter and bytes say of a sheet's file is what the doors of lines say of its lines; and 12, "before all
 -- others", for a letter that names no profile.
 use mathlib.Core.Path.{_≡_}
 use mathlib.Core.List.{List}
