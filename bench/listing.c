@@ -115,15 +115,24 @@ static const char *word_of(const struct row *row, u8 value) {
     return 0;
 }
 
-static void put_value(const struct row *row, u8 value) {
-    if (row->flags & OFF && value == 0xFF) {
-        put("off");
-    } else if (row->flags & SIGNED && value > 0x80) {
+/* the number that a code means in a signed row */
+static int signed_number(u8 code) {
+    return code < 0x80 ? code : 0x80 - code;
+}
+
+static void put_integer(int n) {
+    if (n < 0) {
         put("-");
-        put_number(value - 0x80u);
-    } else {
-        put_number(value);
+        n = -n;
     }
+    put_number((unsigned)n);
+}
+
+static void put_value(const struct row *row, u8 value) {
+    if (row->flags & OFF && value == 0xFF)
+        put("off");
+    else
+        put_integer(row->flags & SIGNED ? signed_number(value) : value);
 }
 
 static int is_input(u8 input) {
