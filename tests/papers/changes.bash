@@ -1,7 +1,7 @@
 # docs/changes/: a page for each request that has landed.
 
 # docs/changes/README.md lists them in the order in which they landed. Each has a page, and there is no other file; each
-# has its sentences in docs/SENTENCES.md; and a request that is named anywhere has landed.
+# has its sentences in docs/SENTENCES.md; and a request that is named outside these pages has landed.
 mapfile -t landed < <(sed -nE 's/^\| \[(C-[0-9]+)\]\(\1\.md\) \|.*/\1/p' docs/changes/README.md)
 [ "${#landed[@]}" -gt 0 ] && [ "${#landed[@]}" = "$(sed -n '/^|---/,/^$/p' docs/changes/README.md | grep -c '^| ')" ]
 told $? "docs/changes/README.md has other rows than '| [C-NN](C-NN.md) | .. |'"
@@ -26,11 +26,14 @@ gone_through() {
         on { sub(/^[|] "/, ""); sub(/" [|].*/, ""); print }' docs/SENTENCES.md | tr '\n' ' '
 }
 
+# the crates in which something moved, as the times name them
+moved_crates() { part "$1" Moved | cited | sed -nE '/^second\//d; s,^([a-z][a-z0-9_]*)/(src|specs|proofs)/.*,`\1`,p' | sort -u; }
+
 # A page is whole: it has its parts, each with something in it. What moved (new names too) and what stayed are told of
 # definitions, promises, proofs and code; it brings edits; and it has the times of each crate in which something moved and
 # of the whole gate, before and after, '-' where there was no such crate.
 whole_page() { # REQUEST
-    local page=docs/changes/$1.md name kind crate
+    local page=docs/changes/$1.md name kind
     head -n 1 "$page" | grep -qE "^# $1: ."
     told $? "$page does not begin with '# $1: '"
     [ -n "$(quoted "$1")" ] && [ "$(quoted "$1")" = "$(gone_through "$1")" ]
@@ -53,9 +56,9 @@ whole_page() { # REQUEST
     told $? "$page has a line under Gone that is neither 'Nothing.' nor '- \`NAME\` ..'"
     part "$1" Edits | cited | grep -qE '/must-fail/.+[.]edit$'
     told $? "$page brings no edit"
-    for crate in 'the whole gate' $(part "$1" Moved | cited | sed -nE 's,^([a-z][a-z0-9_]*)/(src|specs|proofs)/.*,\1,p' | grep -vx second | sort -u | sed 's/.*/`&`/'); do
-        part "$1" Times | grep -qE "^\| $crate \| ([0-9][^|]*|-) \| ([0-9][^|]*|-) \|$"
-        told $? "$page does not say how long $crate took before and after"
+    for name in 'the whole gate' $(moved_crates "$1"); do
+        part "$1" Times | grep -qE "^\| $name \| ([0-9][^|]*|-) \| ([0-9][^|]*|-) \|$"
+        told $? "$page does not say how long $name took before and after"
     done
 }
 for request in "${landed[@]}"; do whole_page "$request"; done
