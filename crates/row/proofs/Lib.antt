@@ -1,4 +1,6 @@
 pub mod Rows
+pub mod Named
+mod Past
 mod Ranges
 pub mod Inverse
 pub mod OneAnswer

@@ -1,10 +1,12 @@
 -- What a private function computes. It need not be believed: proofs/ ties it to the table.
-use Prim.Native.Nat.{ℕ}
+use Prim.Native.Nat.{ℕ, _/_, _%_}
 use mathlib.Core.Bool.{Bool, true, cond, not}
-use mathlib.Core.List.{List}
+use mathlib.Core.List.{List, []}
 use lib.Dec.{eqb}
 use lib.ListN.{getD}
 use Rattle.row.specs.Table.{_⋯_, none}
+use Rattle.row.specs.declared.profile.Profile.{Profile}
+use Rattle.row.specs.declared.profile.Profile.the-variants.{A, S}
 use Rattle.row.specs.declared.table.Codes.{Codes}
 use Rattle.row.specs.declared.table.Row.{Row}
 
@@ -32,3 +34,12 @@ rowFrom n place = record {
   off = eqb (getD n 12 0) 1;
   sheet = eqb (getD n 13 0) 1;
 }
+
+-- of what the two profiles have, a profile's own
+abbrev pub own : {X : Type 0} → Profile → X → X → X
+own A a s = a
+own S a s = s
+
+-- the number that a table has at a code, in lines of sixteen
+unfoldable pub numberAt : List (List ℕ) → ℕ → ℕ
+numberAt kinds code = getD (getD kinds (code / 16) []) (code % 16) 0

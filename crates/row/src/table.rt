@@ -1,11 +1,10 @@
 use crate::profile::Profile;
-use crate::profile::letter_of;
 ghost use mathlib.Core.Path.{_≡_};
-ghost use mathlib.Core.List.{[]};
 ghost use Prim.Native.Nat.{_<_};
 ghost use lib.ListN.{getD};
 ghost use Rattle.row.specs.Table.{table, rowCount, rowOf};
-ghost use Rattle.row.specs.Computed.{codesIf, rowFrom};
+ghost use Rattle.row.specs.Kind.{kindOf, rowAt};
+ghost use Rattle.row.specs.Computed.{codesIf, rowFrom, own, numberAt};
 
 // Codes from low to high; none where low is above high.
 pub struct Codes {
@@ -79,30 +78,134 @@ const ROWS: [[u8; 14]; ROW_COUNT] = [
     [b'S', 0x5C, 2, 1, 0x00, 0x63, 1, 0, 1, 0, 0, 0, 0, 1], // processor volume
 ];
 
+// For each command code, in lines of sixteen, the number of the row that profile A has for it: the row's place in `ROWS`
+// and one more; 0 for none.
+const KINDS_A: [[u8; 16]; 16] = [
+    [0, 0, 0, 0, 0, 0, 0, 0, 0, 0, 0, 0, 0, 0, 0, 1], // 00 to 0F
+    [2, 3, 0, 0, 0, 0, 0, 0, 0, 0, 0, 0, 0, 0, 0, 0], // 10 to 1F
+    [0, 0, 0, 0, 0, 0, 0, 0, 0, 0, 0, 0, 0, 0, 0, 0], // 20 to 2F
+    [0, 0, 0, 0, 0, 0, 0, 4, 5, 6, 7, 0, 0, 0, 0, 0], // 30 to 3F
+    [0, 0, 0, 0, 8, 9, 10, 0, 0, 0, 0, 0, 0, 0, 0, 0], // 40 to 4F
+    [0, 0, 0, 0, 0, 0, 0, 0, 0, 0, 0, 0, 0, 0, 0, 0], // 50 to 5F
+    [0, 0, 0, 0, 0, 0, 0, 0, 0, 0, 0, 0, 0, 0, 0, 0], // 60 to 6F
+    [0, 0, 0, 0, 0, 0, 0, 0, 0, 0, 0, 0, 0, 0, 0, 0], // 70 to 7F
+    [0, 0, 0, 0, 0, 0, 0, 0, 0, 0, 0, 0, 0, 0, 0, 0], // 80 to 8F
+    [0, 0, 0, 0, 0, 0, 0, 0, 0, 0, 0, 0, 0, 0, 0, 0], // 90 to 9F
+    [0, 0, 0, 0, 0, 0, 0, 0, 0, 0, 0, 0, 0, 0, 0, 0], // A0 to AF
+    [0, 0, 0, 0, 0, 0, 0, 0, 0, 0, 0, 0, 0, 0, 0, 0], // B0 to BF
+    [0, 0, 0, 0, 0, 0, 0, 0, 0, 0, 0, 0, 0, 0, 0, 0], // C0 to CF
+    [0, 0, 0, 0, 0, 0, 0, 0, 0, 0, 0, 0, 0, 0, 0, 0], // D0 to DF
+    [0, 0, 0, 0, 0, 0, 0, 0, 0, 0, 0, 0, 0, 0, 0, 0], // E0 to EF
+    [0, 0, 0, 0, 0, 0, 0, 0, 0, 0, 0, 0, 0, 0, 0, 0], // F0 to FF
+];
+
+// The same for profile S.
+const KINDS_S: [[u8; 16]; 16] = [
+    [0, 0, 0, 0, 0, 0, 0, 0, 0, 0, 0, 0, 0, 11, 12, 13], // 00 to 0F
+    [0, 0, 0, 0, 0, 0, 0, 0, 0, 0, 0, 0, 0, 0, 0, 0], // 10 to 1F
+    [0, 0, 0, 0, 0, 0, 0, 0, 0, 0, 0, 0, 0, 0, 0, 0], // 20 to 2F
+    [0, 0, 0, 0, 0, 0, 0, 14, 0, 0, 0, 15, 0, 0, 0, 0], // 30 to 3F
+    [0, 0, 0, 0, 16, 0, 0, 0, 0, 0, 0, 0, 0, 0, 0, 0], // 40 to 4F
+    [0, 0, 0, 0, 0, 0, 0, 0, 0, 0, 17, 18, 19, 0, 0, 0], // 50 to 5F
+    [0, 0, 0, 0, 0, 0, 0, 0, 0, 0, 0, 0, 0, 0, 0, 0], // 60 to 6F
+    [0, 0, 0, 0, 0, 0, 0, 0, 0, 0, 0, 0, 0, 0, 0, 0], // 70 to 7F
+    [0, 0, 0, 0, 0, 0, 0, 0, 0, 0, 0, 0, 0, 0, 0, 0], // 80 to 8F
+    [0, 0, 0, 0, 0, 0, 0, 0, 0, 0, 0, 0, 0, 0, 0, 0], // 90 to 9F
+    [0, 0, 0, 0, 0, 0, 0, 0, 0, 0, 0, 0, 0, 0, 0, 0], // A0 to AF
+    [0, 0, 0, 0, 0, 0, 0, 0, 0, 0, 0, 0, 0, 0, 0, 0], // B0 to BF
+    [0, 0, 0, 0, 0, 0, 0, 0, 0, 0, 0, 0, 0, 0, 0, 0], // C0 to CF
+    [0, 0, 0, 0, 0, 0, 0, 0, 0, 0, 0, 0, 0, 0, 0, 0], // D0 to DF
+    [0, 0, 0, 0, 0, 0, 0, 0, 0, 0, 0, 0, 0, 0, 0, 0], // E0 to EF
+    [0, 0, 0, 0, 0, 0, 0, 0, 0, 0, 0, 0, 0, 0, 0, 0], // F0 to FF
+];
+
 // The row that a profile has for a command.
 pub fn find_row(profile: Profile, command: u8) -> Found
     ensures { λ r. ⌜ r ≡ rowOf profile command ⌝ }
 {
-    let letter = letter_of(profile);
-    let rows = ROWS;
-    let mut i = 0;
-    while i < ROW_COUNT {
-        let numbers = rows[i];
-        if numbers[0] == letter {
-            if numbers[1] == command {
-                return Found::Row(row_from(numbers_at(i), i));
-            }
-        }
-        i += 1;
+    let kind = kind_of(profile, command);
+    if kind == 0 {
+        return Found::NoRow;
     }
-    Found::NoRow
+    let place = kind as usize - 1;
+    Found::Row(row_from(numbers_at(place), place))
+}
+
+// The number of the row that a profile has for a command; 0 for none.
+fn kind_of(profile: Profile, command: u8) -> u8
+    ensures { λ r. ⌜ r ≡ kindOf profile command ⌝ }
+{
+    kind_at(profile, KINDS_A, KINDS_S, command)
+}
+
+// The number at a command's code, in the profile's own of two tables. Lines and places are written out, here and in
+// `number_in`, so that the compiler takes the numbers as constants: where it does not know the place it builds the whole
+// table in memory, at each call.
+fn kind_at(profile: Profile, a: [[u8; 16]; 16], s: [[u8; 16]; 16], command: u8) -> u8
+    ensures { λ r. ⌜ r ≡ numberAt (own profile a s) command ⌝ }
+{
+    let low = command % 16;
+    let high = command / 16;
+    match high {
+        0x0 => kind_in(profile, a[0x0], s[0x0], low),
+        0x1 => kind_in(profile, a[0x1], s[0x1], low),
+        0x2 => kind_in(profile, a[0x2], s[0x2], low),
+        0x3 => kind_in(profile, a[0x3], s[0x3], low),
+        0x4 => kind_in(profile, a[0x4], s[0x4], low),
+        0x5 => kind_in(profile, a[0x5], s[0x5], low),
+        0x6 => kind_in(profile, a[0x6], s[0x6], low),
+        0x7 => kind_in(profile, a[0x7], s[0x7], low),
+        0x8 => kind_in(profile, a[0x8], s[0x8], low),
+        0x9 => kind_in(profile, a[0x9], s[0x9], low),
+        0xA => kind_in(profile, a[0xA], s[0xA], low),
+        0xB => kind_in(profile, a[0xB], s[0xB], low),
+        0xC => kind_in(profile, a[0xC], s[0xC], low),
+        0xD => kind_in(profile, a[0xD], s[0xD], low),
+        0xE => kind_in(profile, a[0xE], s[0xE], low),
+        _ => kind_in(profile, a[0xF], s[0xF], low),
+    }
+}
+
+// The number at a place, in the profile's own of two lines.
+fn kind_in(profile: Profile, a: [u8; 16], s: [u8; 16], place: u8) -> u8
+    requires { ⌜ place < 16 ⌝ }
+    ensures { λ r. ⌜ r ≡ getD (own profile a s) place 0 ⌝ }
+{
+    match profile {
+        Profile::A => number_in(a, place),
+        Profile::S => number_in(s, place),
+    }
+}
+
+fn number_in(line: [u8; 16], place: u8) -> u8
+    requires { ⌜ place < 16 ⌝ }
+    ensures { λ r. ⌜ r ≡ getD line place 0 ⌝ }
+{
+    match place {
+        0x0 => line[0x0],
+        0x1 => line[0x1],
+        0x2 => line[0x2],
+        0x3 => line[0x3],
+        0x4 => line[0x4],
+        0x5 => line[0x5],
+        0x6 => line[0x6],
+        0x7 => line[0x7],
+        0x8 => line[0x8],
+        0x9 => line[0x9],
+        0xA => line[0xA],
+        0xB => line[0xB],
+        0xC => line[0xC],
+        0xD => line[0xD],
+        0xE => line[0xE],
+        _ => line[0xF],
+    }
 }
 
 // The numbers of a row. The places are written out, so that the compiler takes the numbers as constants: where it does
 // not know the place it builds the whole table in memory, at each call.
 fn numbers_at(place: usize) -> [u8; 14]
     requires { ⌜ place < rowCount ⌝ }
-    ensures { λ r. ⌜ rowFrom r place ≡ getD table place (rowFrom [] 0) ⌝ }
+    ensures { λ r. ⌜ Found.Row (rowFrom r place) ≡ rowAt table place ⌝ }
 {
     let rows = ROWS;
     match place {

@@ -1,15 +1,12 @@
 -- `row::table::numbers_at` meets its contract.
 use mathlib.Core.Path.{_≡_}
-use Prim.Native.Nat.{ℕ, _+_, _≤_, _<_}
+use Prim.Native.Nat.{_≤_}
 use native.Mathlib.Omega.{arith}
 use borrow.Author.Needs.{needs}
 use Rattle.row.specs.Table.{table}
+use Rattle.row.proofs.Past.{past-all}
 use Rattle.row.proofs.table.numbers_at.Statement.{statement}
 use Rattle.row.proofs.table.numbers_at.Tie as tie
-
--- a place that is not below one and not it is above it
-above : (k p : ℕ) → k ≤ p → (p ≡ k → ⊥) → k + 1 ≤ p
-above k p h other = omega (arith, h, other)
 
 array-copy-out-result : tie.Need-array-copy-out-result
 array-copy-out-result c = search needs
@@ -143,12 +140,9 @@ returns-18 c = rw (c .before .match .keys18)
 returns-19 : tie.Need-returns-19
 unfolding table
 returns-19 c =
-    let p = c .before .before .args .place in
-    let r = c .before .match .rest in
-    let low : 18 ≤ p =
-    above 17 p (above 16 p (above 15 p (above 14 p (above 13 p (above 12 p (above 11 p (above 10 p (above 9 p (above 8 p (above 7 p (above 6 p (above 5 p (above 4 p (above 3 p (above 2 p (above 1 p (above 0 p (omega arith) (r .0 .0 .0 .0 .0 .0 .0 .0 .0 .0 .0 .0 .0 .0 .0 .0 .0 .1)) (r .0 .0 .0 .0 .0 .0 .0 .0 .0 .0 .0 .0 .0 .0 .0 .0 .1)) (r .0 .0 .0 .0 .0 .0 .0 .0 .0 .0 .0 .0 .0 .0 .0 .1)) (r .0 .0 .0 .0 .0 .0 .0 .0 .0 .0 .0 .0 .0 .0 .1)) (r .0 .0 .0 .0 .0 .0 .0 .0 .0 .0 .0 .0 .0 .1)) (r .0 .0 .0 .0 .0 .0 .0 .0 .0 .0 .0 .0 .1)) (r .0 .0 .0 .0 .0 .0 .0 .0 .0 .0 .0 .1)) (r .0 .0 .0 .0 .0 .0 .0 .0 .0 .0 .1)) (r .0 .0 .0 .0 .0 .0 .0 .0 .0 .1)) (r .0 .0 .0 .0 .0 .0 .0 .0 .1)) (r .0 .0 .0 .0 .0 .0 .0 .1)) (r .0 .0 .0 .0 .0 .0 .1)) (r .0 .0 .0 .0 .0 .1)) (r .0 .0 .0 .0 .1)) (r .0 .0 .0 .1)) (r .0 .0 .1)) (r .0 .1)) (r .1) in
-    let high : p < 19 = search needs in
-    let last : p ≡ 18 = omega (arith, low, high) in
+    let place = c .before .before .args .place in
+    let low : 18 ≤ place = past-all _ 18 place (c .before .match .rest) in
+    let last : place ≡ 18 = omega (arith, low) in
     rw last
 
 pub numbers-at-spec : {M : Type 1} → statement M

@@ -1,0 +1,28 @@
+-- Document 02, C-13: "Hold a table of 256 numbers per profile, one for each command code, naming the row's kind or none."
+use Prim.Native.Nat.{ℕ, zero, suc}
+use mathlib.Core.List.{List, [], _∷_}
+use Rattle.row.specs.Table.{table, rowOf}
+use Rattle.row.specs.declared.profile.Profile.{Profile}
+use Rattle.row.specs.declared.table.Row.{Row}
+use Rattle.row.specs.declared.table.Found.{Found}
+use Rattle.row.specs.declared.table.Found.the-variants as found
+
+-- the number that stands for a row: its place in document 01's table and one more; 0 for none
+abbrev pub kindNumber : Found → ℕ
+kindNumber (found.Row r) = suc (r .place)
+kindNumber found.NoRow = 0
+
+-- the number that a profile's table has for a command code
+abbrev pub kindOf : Profile → ℕ → ℕ
+kindOf p code = kindNumber (rowOf p code)
+
+-- the row at a place of some rows, from 0; none past their end
+abbrev pub rowAt : List Row → ℕ → Found
+rowAt [] place = found.NoRow
+rowAt (r ∷ rs) zero = found.Row r
+rowAt (r ∷ rs) (suc place) = rowAt rs place
+
+-- the row of document 01's table that a number names, or none
+abbrev pub rowNamed : ℕ → Found
+rowNamed zero = found.NoRow
+rowNamed (suc place) = rowAt table place
