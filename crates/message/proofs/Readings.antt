@@ -1,13 +1,17 @@
 -- From a judgement to what is said, to a message, to a frame's reading: the number of a refusal is passed on unchanged.
 use mathlib.Core.Path.{_≡_, refl, ap, sym, _∙_}
-use mathlib.Core.Bool.{Bool, true, false, cond}
+use mathlib.Core.Bool.{Bool, true, false, cond, not, _||_}
 use mathlib.Core.List.{List, [], _∷_}
 use Prim.Native.Nat.{ℕ, _<_}
 use native.Mathlib.Omega.{arith}
+use borrow.Author.Tests.{eqb-true}
+use lib.Dec.{eqb}
 use lib.ListN.{length}
-use Rattle.refusals.specs.Rule.{Rule, ruled}
+use Rattle.refusals.specs.Rule.{Rule, rule, ruled}
+use Rattle.fields.specs.Raw.{tooLong}
 use Rattle.fields.specs.Fields.{isFrame, fieldsIn, dataIn, fieldsOf, dataOf}
 use Rattle.frame.specs.declared.direction.Direction.{Direction}
+use Rattle.frame.specs.declared.direction.Direction.the-variants.{Command, Answer}
 use Rattle.fields.specs.declared.fields.Fields.{Fields}
 use Rattle.fields.specs.declared.fields.Brought.the-variants as brought
 use Rattle.row.specs.Table.{rowOf}
@@ -16,8 +20,8 @@ use Rattle.row.specs.declared.table.Row.{Row}
 use Rattle.row.specs.declared.table.Found.{Found}
 use Rattle.row.specs.declared.table.Found.the-variants as found
 use Rattle.judging.specs.Judge.{judgeRules, judgedBy, judgedOf}
-use Rattle.message.specs.Message.{said, messageIn, readOf, fromReading, frameRead, deniedIn}
-use Rattle.message.specs.Computed.{saidBy, saidRead, isDenied}
+use Rattle.message.specs.Message.{isDenial, said, denial, messageIn, readOf, fromReading, frameRead, deniedIn}
+use Rattle.message.specs.Computed.{saidBy, saidRead, hasOtherCode, deniedRead, messageSaying, isDenied}
 use Rattle.judging.specs.declared.judge.Judged.{Judged}
 use Rattle.judging.specs.declared.judge.Judged.the-variants as judged
 use Rattle.message.specs.declared.read.Said.{Said}
@@ -85,6 +89,32 @@ module _ (profile : Profile) (dir : Direction) (zone command : ℕ) (body : List
         go : (j : Judged) → saidBy dir zone command body j ≡ sayings.Said s → formed j ≡ reading.Message (form s)
         go (judged.Legal row) f = ap (λ (x : Said). reading.Message (form x)) (same (said dir row zone command body) f)
         go (judged.Refused k) f = let z : _≡_ {A = ℕ} 0 1 = cc in absurd (omega arith)
+
+-- an answer whose code is not 00 is denied, or refused with 5; every other message is read by what it says
+module _ (profile : Profile) (zone command ac : ℕ) (body : List ℕ) where
+  pub read-other : (dir : Direction) → hasOtherCode dir ac ≡ true → readOf profile dir zone command ac body ≡ deniedRead zone command ac body
+  unfolding readOf
+  read-other Command e = cc
+  read-other Answer e = go (eqb ac 0x00) (isDenial ac) e (messageIn (rowOf profile command) (λ row. message.Status (said Answer row zone command body)))
+    where
+      denied : Reading
+      denied = reading.Message (message.Denied (denial zone command ac))
+
+      go : (zero denies : Bool) → not zero ≡ true → (other : Reading)
+          → ruled (rule 5 (not (zero || denies)) ∷ cond denies (tooLong body ∷ []) (judgeRules profile Answer zone command body)) reading.Refused (cond denies denied other)
+          ≡ ruled (rule 5 (not denies) ∷ tooLong body ∷ []) reading.Refused denied
+      go true denies f other = cc
+      go false true f other = refl
+      go false false f other = refl
+
+  pub read-saying : (dir : Direction) → hasOtherCode dir ac ≡ false → readOf profile dir zone command ac body ≡ reads profile dir zone command body (messageSaying dir)
+  unfolding readOf
+  read-saying Command e = refl
+  read-saying Answer e = rw (zero-code (eqb ac 0x00) refl e)
+    where
+      zero-code : (t : Bool) → eqb ac 0x00 ≡ t → not t ≡ false → ac ≡ 0x00
+      zero-code true f g = eqb-true ac 0x00 f
+      zero-code false f g = cc
 
 -- from the bytes of a frame
 module _ (profile : Profile) (dir : Direction) (bytes : List ℕ) where

@@ -1,12 +1,18 @@
 -- What the private functions compute: nothing here need be believed. How a refusal's number is passed on, from one answer's kind
--- to the next (what is no refusal never comes there); what a command or a status says; and whether a message is a denial.
+-- to the next (what is no refusal never comes there); what a command or a status says; what an answer with another code than 00
+-- reads as; and whether a message is a denial.
 use Prim.Native.Nat.{ℕ}
-use mathlib.Core.Bool.{Bool, true, false}
-use mathlib.Core.List.{List}
+use mathlib.Core.Bool.{Bool, true, false, not}
+use mathlib.Core.List.{List, [], _∷_}
+use lib.Dec.{eqb}
+use Rattle.refusals.specs.Rule.{rule, ruled}
+use Rattle.fields.specs.Raw.{tooLong}
 use Rattle.frame.specs.declared.direction.Direction.{Direction}
+use Rattle.frame.specs.declared.direction.Direction.the-variants.{Command, Answer}
 use Rattle.row.specs.declared.profile.Profile.{Profile}
 use Rattle.judging.specs.Judge.{judgedOf}
-use Rattle.message.specs.Message.{said}
+use Rattle.message.specs.Message.{isDenial, said, denial}
+use Rattle.message.specs.declared.read.Said.{Said}
 use Rattle.message.specs.declared.read.Message.{Message}
 use Rattle.message.specs.declared.read.Message.the-variants as message
 use Rattle.lent.specs.declared.written.Written.{Written}
@@ -47,6 +53,21 @@ saidBy dir zone command body (judged.Refused n) = sayings.Refused n
 
 abbrev pub saidRead : Profile → Direction → ℕ → ℕ → List ℕ → SaidReading
 saidRead profile dir zone command body = saidBy dir zone command body (judgedOf profile dir zone command body)
+
+-- has an answer a code other than 00
+abbrev pub hasOtherCode : Direction → ℕ → Bool
+hasOtherCode Command ac = false
+hasOtherCode Answer ac = not (eqb ac 0x00)
+
+-- what an answer reads as whose code is not 00
+abbrev pub deniedRead : ℕ → ℕ → ℕ → List ℕ → Reading
+deniedRead zone command ac body =
+    ruled (rule 5 (not (isDenial ac)) ∷ tooLong body ∷ []) reading.Refused (reading.Message (message.Denied (denial zone command ac)))
+
+-- the message of a direction that says something
+abbrev pub messageSaying : Direction → Said → Message
+messageSaying Command s = message.Command s
+messageSaying Answer s = message.Status s
 
 abbrev pub isDenialMessage : Message → Bool
 isDenialMessage (message.Command s) = false

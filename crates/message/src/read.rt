@@ -6,9 +6,8 @@ use judging::judge::Judged;
 use judging::judge::judge;
 use row::profile::Profile;
 ghost use mathlib.Core.Path.{_≡_};
-ghost use Rattle.frame.specs.declared.direction.Direction.the-variants as direction;
 ghost use Rattle.message.specs.Message.{readOf, frameRead, deniedIn};
-ghost use Rattle.message.specs.Computed.{saidRead, isDenialMessage, isDenied};
+ghost use Rattle.message.specs.Computed.{hasOtherCode, deniedRead, messageSaying, saidRead, isDenialMessage, isDenied};
 ghost use Rattle.fields.specs.Fields.{dataOf};
 ghost use Rattle.message.specs.Computed.{judgedOn, saidOn, readingOn};
 
@@ -85,10 +84,14 @@ pub fn read_message(
 ) -> Reading
     ensures { λ r. ⌜ r ≡ readOf profile direction zone command answer (now (body .entry)) ⌝ }
 {
-    match direction {
-        Direction::Command => read_command(profile, zone, command, body),
-        Direction::Answer => read_answer(profile, zone, command, answer, body),
+    if has_other_code(direction, answer) {
+        return read_denied(zone, command, answer, body);
     }
+    let reading = read_said(profile, direction, zone, command, body);
+    let SaidReading::Said(said) = reading else {
+        return said_refused(reading);
+    };
+    Reading::Message(message_of(direction, said))
 }
 
 // The data of the denied message that the bytes of a frame are, as they came: a part of the bytes lent. Other
@@ -122,23 +125,20 @@ fn is_denial(message: Message) -> bool
     }
 }
 
-fn read_command(profile: Profile, zone: u8, command: u8, body: &[u8]) -> Reading
-    ensures { λ r. ⌜ r ≡ readOf profile direction.Command zone command 0 (now (body .entry)) ⌝ }
+// Whether an answer has a code other than 00; a command has none.
+fn has_other_code(direction: Direction, answer: u8) -> bool
+    ensures { λ r. ⌜ r ≡ hasOtherCode direction answer ⌝ }
 {
-    let reading = read_said(profile, Direction::Command, zone, command, body);
-    let SaidReading::Said(said) = reading else {
-        return said_refused(reading);
-    };
-    Reading::Message(Message::Command(said))
+    match direction {
+        Direction::Command => false,
+        Direction::Answer => answer != 0x00,
+    }
 }
 
-// 5 for an answer code that is neither 00 nor 82 to 86; denied data over 255 are 3.
-fn read_answer(profile: Profile, zone: u8, command: u8, answer: u8, body: &[u8]) -> Reading
-    ensures { λ r. ⌜ r ≡ readOf profile direction.Answer zone command answer (now (body .entry)) ⌝ }
+// An answer whose code is not 00: 5 where it is not 82 to 86 either; denied data over 255 are 3.
+fn read_denied(zone: u8, command: u8, answer: u8, body: &[u8]) -> Reading
+    ensures { λ r. ⌜ r ≡ deniedRead zone command answer (now (body .entry)) ⌝ }
 {
-    if answer == 0x00 {
-        return read_status(profile, zone, command, body);
-    }
     if answer < 0x82 {
         return Reading::Refused(5);
     }
@@ -155,14 +155,14 @@ fn read_answer(profile: Profile, zone: u8, command: u8, answer: u8, body: &[u8])
     }))
 }
 
-fn read_status(profile: Profile, zone: u8, command: u8, body: &[u8]) -> Reading
-    ensures { λ r. ⌜ r ≡ readOf profile direction.Answer zone command 0 (now (body .entry)) ⌝ }
+// The message that says it: a command, or a status.
+fn message_of(direction: Direction, said: Said) -> Message
+    ensures { λ r. ⌜ r ≡ messageSaying direction said ⌝ }
 {
-    let reading = read_said(profile, Direction::Answer, zone, command, body);
-    let SaidReading::Said(said) = reading else {
-        return said_refused(reading);
-    };
-    Reading::Message(Message::Status(said))
+    match direction {
+        Direction::Command => Message::Command(said),
+        Direction::Answer => Message::Status(said),
+    }
 }
 
 // What a command or a status says, once it is judged.
