@@ -10,7 +10,11 @@ use Rattle.characters.specs.Decimal.{decimal}
 use Rattle.characters.specs.Hex.{hexByte}
 use Rattle.listing_text.specs.Listing.{valueText, textLine}
 use Rattle.message.specs.declared.read.Said.{Said}
+use Rattle.message.specs.declared.read.Message.{Message}
+use Rattle.message.specs.declared.read.Message.the-variants as message
 use Rattle.listing_pieces.specs.Pieces.{Given}
+use Rattle.listing_pieces.specs.declared.event.Shown.{Shown}
+use Rattle.listing_pieces.specs.declared.event.Shown.the-variants as shown
 use Rattle.listing_pieces.specs.declared.piece.Place.{Place}
 use Rattle.listing_pieces.specs.declared.piece.Place.the-variants as place
 
@@ -33,6 +37,12 @@ answerText answered = cond answered (letters " 00 ") (letters " - ")
 abbrev pub saidBehind : List ℕ → Said → List ℕ
 saidBehind answer s =
     letters " frame " ++ (decimal (s .zone) ++ ((letters " " ++ hexByte (s .command)) ++ (answer ++ (valueText (s .content) ++ letters "\n"))))
+
+-- what a line shows of a message
+abbrev pub shownOf : Message → Shown
+shownOf (message.Command s) = shown.Said s false
+shownOf (message.Status s) = shown.Said s true
+shownOf (message.Denied d) = shown.Denied d
 
 -- the first of the lines yet to come
 abbrev pub firstText : List Given → List ℕ

@@ -14,6 +14,7 @@ use message::read::Message;
 use message::read::Said;
 use message::read::read_frame;
 use row::profile::Profile;
+ghost use mathlib.Core.Path.{_≡_};
 ghost use mathlib.Core.List.{_++_};
 ghost use Prim.Native.Nat.{_+_, _^_, _≤_, _<_};
 ghost use lib.ListN.{length};
@@ -24,7 +25,7 @@ ghost use Rattle.characters.specs.Letters.{letters};
 ghost use Rattle.characters.specs.Decimal.{decimal};
 ghost use Rattle.characters.specs.Hex.{hexByte};
 ghost use Rattle.listing_text.specs.Listing.{valueText, readText, eventText, eventLine};
-ghost use Rattle.listing_pieces.specs.Computed.{Put, behind, answerText, saidBehind};
+ghost use Rattle.listing_pieces.specs.Computed.{Put, behind, answerText, saidBehind, shownOf};
 
 // Where it is, how long it is, and what it is.
 pub(crate) fn put_event(
@@ -92,15 +93,29 @@ fn put_unread(number: u8, buf: &mut [u8], at: usize) -> usize
     put_bytes(buf, second, b"\n")
 }
 
-// In commands the answer is a dash; a status was answered with 00.
+// What a line shows of a message: what it says and whether it is an answer, or a denial.
+enum Shown {
+    Said(Said, bool),
+    Denied(Denial),
+}
+
 fn put_message(message: Message, buf: &mut [u8], at: usize) -> usize
     requires { ⌜ at + 27 ≤ length (now buf) ⌝ }
     ensures { λ r. ⌜ Put 27 (now (buf .entry)) at (behind (readText (reading.Message message))) (now (buf .exit)) r ⌝ }
 {
+    match shown_of(message) {
+        Shown::Said(said, answered) => put_said(said, answered, buf, at),
+        Shown::Denied(denial) => put_denied(denial, buf, at),
+    }
+}
+
+fn shown_of(message: Message) -> Shown
+    ensures { λ r. ⌜ r ≡ shownOf message ⌝ }
+{
     match message {
-        Message::Command(said) => put_said(said, false, buf, at),
-        Message::Status(said) => put_said(said, true, buf, at),
-        Message::Denied(denial) => put_denied(denial, buf, at),
+        Message::Command(said) => Shown::Said(said, false),
+        Message::Status(said) => Shown::Said(said, true),
+        Message::Denied(denial) => Shown::Denied(denial),
     }
 }
 
@@ -114,7 +129,7 @@ fn put_said(said: Said, answered: bool, buf: &mut [u8], at: usize) -> usize
     put_last(content, buf, value)
 }
 
-// The answer with a space on either side. Each text is put as it stands: one that is passed on is copied byte by byte.
+// The answer with a space on either side: a dash in commands; a status was answered with 00. Each text is put as it stands: one that is passed on is copied byte by byte.
 fn put_answer(answered: bool, buf: &mut [u8], at: usize) -> usize
     requires { ⌜ at + 4 ≤ length (now buf) ⌝ }
     ensures { λ r. ⌜ Put 4 (now (buf .entry)) at (answerText answered) (now (buf .exit)) r ⌝ }
