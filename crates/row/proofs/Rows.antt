@@ -1,4 +1,4 @@
--- What is known of the row that is found.
+-- `table-promise`, and what is known of the row that is found.
 use mathlib.Core.Path.{_≡_, refl, ap, sym, _∙_, subst}
 use mathlib.Core.Bool.{Bool, true, false, cond, _&&_}
 use mathlib.Core.List.{List, [], _∷_}
@@ -7,14 +7,11 @@ use native.Mathlib.Omega.{arith}
 use borrow.Author.Tests.{eqb-true}
 use lib.Dec.{eqb}
 use Rattle.lists.specs.Each.{Each}
+use Rattle.row.specs.Profile.{letterOf}
 use Rattle.row.specs.TablePromise.{TablePromise}
 use Rattle.row.specs.Table.{table, firstRow}
 use Rattle.row.specs.declared.table.Row.{Row}
 use Rattle.row.specs.declared.table.Found.the-variants as found
-
-pub table-promise : TablePromise
-unfolding table
-table-promise = record { counted = refl; placed = refl }
 
 -- does a row answer to a letter and a command
 abbrev isAt : Row → ℕ → ℕ → Bool
@@ -36,17 +33,27 @@ each-found P (x ∷ rs) letter command r all e = go (isAt x letter command) (eac
     go true next f = subst P (same x r f) (all .0)
     go false next f = next f
 
-both : (s t : Bool) → s && t ≡ true → t ≡ true
-both true t e = e
-both false t e = cc
+pub both : (s t : Bool) → s && t ≡ true → (s ≡ true) × (t ≡ true)
+both true t e = (refl, e)
+both false t e = (cc, cc)
 
--- the row that is found has the command's code
-pub code-found : (rs : List Row) (letter command : ℕ) (r : Row) → firstRow rs letter command ≡ found.Row r → r .code ≡ command
+-- the row that is found has the letter and the command's code
+own-found : (rs : List Row) (letter command : ℕ) (r : Row) → firstRow rs letter command ≡ found.Row r → (r .profile ≡ letter) × (r .code ≡ command)
 unfolding firstRow
-code-found [] letter command r e = absurd (none-some r e)
-code-found (x ∷ rs) letter command r e = go (isAt x letter command) refl (code-found rs letter command r) e
+own-found [] letter command r e = absurd (none-some r e)
+own-found (x ∷ rs) letter command r e = go (isAt x letter command) refl (own-found rs letter command r) e
   where
-    go : (t : Bool) → isAt x letter command ≡ t → (firstRow rs letter command ≡ found.Row r → r .code ≡ command)
-        → cond t (found.Row x) (firstRow rs letter command) ≡ found.Row r → r .code ≡ command
-    go true here next f = ap (λ (y : Row). y .code) (sym (same x r f)) ∙ eqb-true (x .code) command (both (eqb (x .profile) letter) (eqb (x .code) command) here)
+    go : (t : Bool) → isAt x letter command ≡ t → (firstRow rs letter command ≡ found.Row r → (r .profile ≡ letter) × (r .code ≡ command))
+        → cond t (found.Row x) (firstRow rs letter command) ≡ found.Row r → (r .profile ≡ letter) × (r .code ≡ command)
+    go true here next f =
+        let (letters, codes) = both (eqb (x .profile) letter) (eqb (x .code) command) here in
+        let x-is = sym (same x r f) in
+        (ap (λ (y : Row). y .profile) x-is ∙ eqb-true (x .profile) letter letters, ap (λ (y : Row). y .code) x-is ∙ eqb-true (x .code) command codes)
     go false here next f = next f
+
+pub code-found : (rs : List Row) (letter command : ℕ) (r : Row) → firstRow rs letter command ≡ found.Row r → r .code ≡ command
+code-found rs letter command r e = own-found rs letter command r e .1
+
+pub table-promise : TablePromise
+unfolding table firstRow
+table-promise = record { counted = refl; placed = refl; right = λ p command r e. own-found table (letterOf p) command r e; all = refl }

@@ -1,7 +1,7 @@
 -- What a private function computes. It need not be believed: proofs/ ties it to the table.
-use Prim.Native.Nat.{ℕ, _/_, _%_}
+use Prim.Native.Nat.{ℕ}
 use mathlib.Core.Bool.{Bool, true, cond, not}
-use mathlib.Core.List.{List, []}
+use mathlib.Core.List.{List}
 use lib.Dec.{eqb}
 use lib.ListN.{getD}
 use Rattle.row.specs.Table.{_⋯_, none}
@@ -39,7 +39,3 @@ rowFrom n place = record {
 abbrev pub own : {X : Type 0} → Profile → X → X → X
 own A a s = a
 own S a s = s
-
--- the number that a table has at a code, in lines of sixteen
-unfoldable pub numberAt : List (List ℕ) → ℕ → ℕ
-numberAt kinds code = getD (getD kinds (code / 16) []) (code % 16) 0

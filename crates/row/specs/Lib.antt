@@ -1,5 +1,5 @@
--- What must be believed: the profiles, the table of rows, its numbers by command code, the rule of signed codes; then the
--- promises. `Computed` need not be believed.
+-- What must be believed: the profiles, the table of rows, the number of each command's row, the rule of signed codes; then
+-- the promises. `Computed` need not be believed.
 pub mod Profile
 pub mod Table
 pub mod Kind

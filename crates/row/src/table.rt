@@ -3,8 +3,8 @@ ghost use mathlib.Core.Path.{_≡_};
 ghost use Prim.Native.Nat.{_<_};
 ghost use lib.ListN.{getD};
 ghost use Rattle.row.specs.Table.{table, rowCount, rowOf};
-ghost use Rattle.row.specs.Kind.{kindOf, rowAt};
-ghost use Rattle.row.specs.Computed.{codesIf, rowFrom, own, numberAt};
+ghost use Rattle.row.specs.Kind.{kindOf, HasKinds, rowAt};
+ghost use Rattle.row.specs.Computed.{codesIf, rowFrom, own};
 
 // Codes from low to high; none where low is above high.
 pub struct Codes {
@@ -135,53 +135,54 @@ pub fn find_row(profile: Profile, command: u8) -> Found
 fn kind_of(profile: Profile, command: u8) -> u8
     ensures { λ r. ⌜ r ≡ kindOf profile command ⌝ }
 {
-    kind_at(profile, KINDS_A, KINDS_S, command)
+    kind_in_tables(profile, KINDS_A, KINDS_S, command)
 }
 
-// The number at a command's code, in the profile's own of two tables. Lines and places are written out, here and in
-// `number_in`, so that the compiler takes the numbers as constants: where it does not know the place it builds the whole
-// table in memory, at each call.
-fn kind_at(profile: Profile, a: [[u8; 16]; 16], s: [[u8; 16]; 16], command: u8) -> u8
-    ensures { λ r. ⌜ r ≡ numberAt (own profile a s) command ⌝ }
+// The number at a command's code, in the profile's own of two tables. The lines are written out, and the places in a line,
+// for the reason that `numbers_at` gives.
+fn kind_in_tables(profile: Profile, a: [[u8; 16]; 16], s: [[u8; 16]; 16], command: u8) -> u8
+    requires { ⌜ HasKinds Profile.A a × HasKinds Profile.S s ⌝ }
+    ensures { λ r. ⌜ r ≡ kindOf profile command ⌝ }
 {
     let low = command % 16;
     let high = command / 16;
     match high {
-        0x0 => kind_in(profile, a[0x0], s[0x0], low),
-        0x1 => kind_in(profile, a[0x1], s[0x1], low),
-        0x2 => kind_in(profile, a[0x2], s[0x2], low),
-        0x3 => kind_in(profile, a[0x3], s[0x3], low),
-        0x4 => kind_in(profile, a[0x4], s[0x4], low),
-        0x5 => kind_in(profile, a[0x5], s[0x5], low),
-        0x6 => kind_in(profile, a[0x6], s[0x6], low),
-        0x7 => kind_in(profile, a[0x7], s[0x7], low),
-        0x8 => kind_in(profile, a[0x8], s[0x8], low),
-        0x9 => kind_in(profile, a[0x9], s[0x9], low),
-        0xA => kind_in(profile, a[0xA], s[0xA], low),
-        0xB => kind_in(profile, a[0xB], s[0xB], low),
-        0xC => kind_in(profile, a[0xC], s[0xC], low),
-        0xD => kind_in(profile, a[0xD], s[0xD], low),
-        0xE => kind_in(profile, a[0xE], s[0xE], low),
-        _ => kind_in(profile, a[0xF], s[0xF], low),
+        0x0 => kind_in_lines(profile, a[0x0], s[0x0], low),
+        0x1 => kind_in_lines(profile, a[0x1], s[0x1], low),
+        0x2 => kind_in_lines(profile, a[0x2], s[0x2], low),
+        0x3 => kind_in_lines(profile, a[0x3], s[0x3], low),
+        0x4 => kind_in_lines(profile, a[0x4], s[0x4], low),
+        0x5 => kind_in_lines(profile, a[0x5], s[0x5], low),
+        0x6 => kind_in_lines(profile, a[0x6], s[0x6], low),
+        0x7 => kind_in_lines(profile, a[0x7], s[0x7], low),
+        0x8 => kind_in_lines(profile, a[0x8], s[0x8], low),
+        0x9 => kind_in_lines(profile, a[0x9], s[0x9], low),
+        0xA => kind_in_lines(profile, a[0xA], s[0xA], low),
+        0xB => kind_in_lines(profile, a[0xB], s[0xB], low),
+        0xC => kind_in_lines(profile, a[0xC], s[0xC], low),
+        0xD => kind_in_lines(profile, a[0xD], s[0xD], low),
+        0xE => kind_in_lines(profile, a[0xE], s[0xE], low),
+        _ => kind_in_lines(profile, a[0xF], s[0xF], low),
     }
 }
 
 // The number at a place, in the profile's own of two lines.
-fn kind_in(profile: Profile, a: [u8; 16], s: [u8; 16], place: u8) -> u8
-    requires { ⌜ place < 16 ⌝ }
-    ensures { λ r. ⌜ r ≡ getD (own profile a s) place 0 ⌝ }
+fn kind_in_lines(profile: Profile, a: [u8; 16], s: [u8; 16], low: u8) -> u8
+    requires { ⌜ low < 16 ⌝ }
+    ensures { λ r. ⌜ r ≡ getD (own profile a s) low 0 ⌝ }
 {
     match profile {
-        Profile::A => number_in(a, place),
-        Profile::S => number_in(s, place),
+        Profile::A => kind_in_line(a, low),
+        Profile::S => kind_in_line(s, low),
     }
 }
 
-fn number_in(line: [u8; 16], place: u8) -> u8
-    requires { ⌜ place < 16 ⌝ }
-    ensures { λ r. ⌜ r ≡ getD line place 0 ⌝ }
+// The number at a place of a line.
+fn kind_in_line(line: [u8; 16], low: u8) -> u8
+    requires { ⌜ low < 16 ⌝ }
+    ensures { λ r. ⌜ r ≡ getD line low 0 ⌝ }
 {
-    match place {
+    match low {
         0x0 => line[0x0],
         0x1 => line[0x1],
         0x2 => line[0x2],

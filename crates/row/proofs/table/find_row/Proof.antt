@@ -15,7 +15,7 @@ kind-of-requires c κs = search needs
 returns : tie.Need-returns
 returns c =
     let a = c .before .before .args in
-    sym (kind-promise .none (a .profile) (a .command) .0 (sym (c .before .kind-of .ensures) ∙ c .if1 .taken))
+    sym (kind-promise .zero-none (a .profile) (a .command) .0 (sym (c .before .kind-of .ensures) ∙ c .if1 .taken))
 
 cast-place : tie.Need-cast-place
 cast-place c = search needs

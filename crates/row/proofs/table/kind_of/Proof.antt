@@ -1,18 +1,18 @@
 -- `row::table::kind_of` meets its contract: the code's own two tables are computed against the rows, all of their entries at once.
-use mathlib.Core.Path.{refl, _∙_}
+use mathlib.Core.Path.{refl}
 use borrow.Author.Needs.{needs}
 use Rattle.row.specs.Table.{table, firstRow}
-use Rattle.row.specs.Computed.{numberAt}
-use Rattle.row.proofs.Named.{upto, kinds-at}
+use Rattle.row.specs.Kind.{kindAt}
+use Rattle.row.proofs.Named.{upto, tables-have}
 use Rattle.row.proofs.table.kind_of.Statement.{statement}
 use Rattle.row.proofs.table.kind_of.Tie as tie
 
-kind-at-requires : tie.Need-kind-at-requires
-kind-at-requires c κs = search needs
+kind-in-tables-requires : tie.Need-kind-in-tables-requires
+unfolding table firstRow kindAt upto
+kind-in-tables-requires c κs = tables-have _ _ refl
 
 returns : tie.Need-returns
-unfolding table firstRow numberAt upto
-returns c = let a = c .before .args in c .kind-at .ensures ∙ kinds-at _ _ refl (a .profile) (a .command) (search needs)
+returns c = search needs
 
 pub kind-of-spec : {M : Type 1} → statement M
-kind-of-spec = tie.close (tie.spec kind-at-requires returns)
+kind-of-spec = tie.close (tie.spec kind-in-tables-requires returns)

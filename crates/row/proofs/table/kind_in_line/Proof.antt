@@ -1,11 +1,11 @@
--- `row::table::number_in` meets its contract.
+-- `row::table::kind_in_line` meets its contract.
 use mathlib.Core.Path.{_≡_}
 use Prim.Native.Nat.{_≤_}
 use native.Mathlib.Omega.{arith}
 use borrow.Author.Needs.{needs}
 use Rattle.row.proofs.Past.{past-all}
-use Rattle.row.proofs.table.number_in.Statement.{statement}
-use Rattle.row.proofs.table.number_in.Tie as tie
+use Rattle.row.proofs.table.kind_in_line.Statement.{statement}
+use Rattle.row.proofs.table.kind_in_line.Tie as tie
 
 array-read-result : tie.Need-array-read-result
 array-read-result c = search needs
@@ -102,11 +102,11 @@ returns-15 c = rw (c .match .keys15)
 
 returns-16 : tie.Need-returns-16
 returns-16 c =
-    let place = c .before .args .place in
-    let low : 15 ≤ place = past-all _ 15 place (c .match .rest) in
-    let last : place ≡ 15 = omega (arith, low) in
+    let low = c .before .args .low in
+    let least : 15 ≤ low = past-all _ 15 low (c .match .rest) in
+    let last : low ≡ 15 = omega (arith, least) in
     rw last
 
-pub number-in-spec : {M : Type 1} → statement M
-number-in-spec =
+pub kind-in-line-spec : {M : Type 1} → statement M
+kind-in-line-spec =
     tie.close (tie.spec array-read-result array-read-result-2 array-read-result-3 array-read-result-4 array-read-result-5 array-read-result-6 array-read-result-7 array-read-result-8 array-read-result-9 array-read-result-10 array-read-result-11 array-read-result-12 array-read-result-13 array-read-result-14 array-read-result-15 array-read-result-16 returns returns-2 returns-3 returns-4 returns-5 returns-6 returns-7 returns-8 returns-9 returns-10 returns-11 returns-12 returns-13 returns-14 returns-15 returns-16)
