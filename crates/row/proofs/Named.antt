@@ -99,11 +99,11 @@ has-kinds p kinds e = record { each = λ command h. eqb-true (kindAt kinds comma
 pub tables-have : (a s : List (List ℕ)) → hasKinds A a && hasKinds S s ≡ true → HasKinds A a × HasKinds S s
 tables-have a s e = let (for-a, for-s) = both (hasKinds A a) (hasKinds S s) e in (has-kinds A a for-a, has-kinds S s for-s)
 
--- the number at a command's code, found in its line
-pub line-at : (p : Profile) (a s : List (List ℕ)) (command : ℕ) {line : ℕ} → HasKinds A a × HasKinds S s → command < 256 → command / 16 ≡ line
-    → getD (own p (getD a line []) (getD s line [])) (command % 16) 0 ≡ kindOf p command
+-- what stands at a command's place in its line is its number
+pub line-at : (p : Profile) (a s : List (List ℕ)) (command : ℕ) {line kind : ℕ} → HasKinds A a × HasKinds S s → command < 256 → command / 16 ≡ line
+    → kind ≡ getD (getD (own p a s) line []) (command % 16) 0 → kind ≡ kindOf p command
 unfolding kindAt
-line-at p a s command have h e = rw (sym e) (go p) where
-  go : (p : Profile) → getD (own p (getD a (command / 16) []) (getD s (command / 16) [])) (command % 16) 0 ≡ kindOf p command
+line-at p a s command have h e there = there ∙ rw (sym e) (go p) where
+  go : (p : Profile) → getD (getD (own p a s) (command / 16) []) (command % 16) 0 ≡ kindOf p command
   go A = have .0 .each command h
   go S = have .1 .each command h

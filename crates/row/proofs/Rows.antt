@@ -9,13 +9,9 @@ use lib.Dec.{eqb}
 use Rattle.lists.specs.Each.{Each}
 use Rattle.row.specs.Profile.{letterOf}
 use Rattle.row.specs.TablePromise.{TablePromise}
-use Rattle.row.specs.Table.{table, firstRow}
+use Rattle.row.specs.Table.{table, isRowOf, firstRow}
 use Rattle.row.specs.declared.table.Row.{Row}
 use Rattle.row.specs.declared.table.Found.the-variants as found
-
--- does a row answer to a letter and a command
-abbrev isAt : Row → ℕ → ℕ → Bool
-isAt r letter command = eqb (r .profile) letter && eqb (r .code) command
 
 pub none-some : (x : Row) → found.NoRow ≡ found.Row x → ⊥
 none-some x f = let z : _≡_ {A = ℕ} 0 1 = cc in omega arith
@@ -27,7 +23,7 @@ same x r f = cc
 pub each-found : (P : Row → Type 0) (rs : List Row) (letter command : ℕ) (r : Row) → Each P rs → firstRow rs letter command ≡ found.Row r → P r
 unfolding firstRow
 each-found P [] letter command r all e = absurd (none-some r e)
-each-found P (x ∷ rs) letter command r all e = go (isAt x letter command) (each-found P rs letter command r (all .1)) e
+each-found P (x ∷ rs) letter command r all e = go (isRowOf letter command x) (each-found P rs letter command r (all .1)) e
   where
     go : (t : Bool) → (firstRow rs letter command ≡ found.Row r → P r) → cond t (found.Row x) (firstRow rs letter command) ≡ found.Row r → P r
     go true next f = subst P (same x r f) (all .0)
@@ -41,9 +37,9 @@ both false t e = (cc, cc)
 own-found : (rs : List Row) (letter command : ℕ) (r : Row) → firstRow rs letter command ≡ found.Row r → (r .profile ≡ letter) × (r .code ≡ command)
 unfolding firstRow
 own-found [] letter command r e = absurd (none-some r e)
-own-found (x ∷ rs) letter command r e = go (isAt x letter command) refl (own-found rs letter command r) e
+own-found (x ∷ rs) letter command r e = go (isRowOf letter command x) refl (own-found rs letter command r) e
   where
-    go : (t : Bool) → isAt x letter command ≡ t → (firstRow rs letter command ≡ found.Row r → (r .profile ≡ letter) × (r .code ≡ command))
+    go : (t : Bool) → isRowOf letter command x ≡ t → (firstRow rs letter command ≡ found.Row r → (r .profile ≡ letter) × (r .code ≡ command))
         → cond t (found.Row x) (firstRow rs letter command) ≡ found.Row r → (r .profile ≡ letter) × (r .code ≡ command)
     go true here next f =
         let (letters, codes) = both (eqb (x .profile) letter) (eqb (x .code) command) here in

@@ -106,11 +106,14 @@ table =
 abbrev pub rowCount : ℕ
 rowCount = 19
 
+-- is a row that of a profile's letter and a command
+abbrev pub isRowOf : ℕ → ℕ → Row → Bool
+isRowOf letter command r = eqb (r .profile) letter && eqb (r .code) command
+
 -- the first of some rows that a profile has for a command, or none
 unfoldable pub firstRow : List Row → ℕ → ℕ → Found
 firstRow [] letter command = found.NoRow
-firstRow (r ∷ rs) letter command =
-    cond (eqb (r .profile) letter && eqb (r .code) command) (found.Row r) (firstRow rs letter command)
+firstRow (r ∷ rs) letter command = cond (isRowOf letter command r) (found.Row r) (firstRow rs letter command)
 
 -- the row that a profile has for a command; 2: "command without a row in the profile"
 abbrev pub rowOf : Profile → ℕ → Found

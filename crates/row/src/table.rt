@@ -1,5 +1,6 @@
 use crate::profile::Profile;
 ghost use mathlib.Core.Path.{_≡_};
+ghost use mathlib.Core.List.{[]};
 ghost use Prim.Native.Nat.{_<_};
 ghost use lib.ListN.{getD};
 ghost use Rattle.row.specs.Table.{table, rowCount, rowOf};
@@ -147,33 +148,33 @@ fn kind_in_tables(profile: Profile, a: [[u8; 16]; 16], s: [[u8; 16]; 16], comman
     let low = command % 16;
     let high = command / 16;
     match high {
-        0x0 => kind_in_lines(profile, a[0x0], s[0x0], low),
-        0x1 => kind_in_lines(profile, a[0x1], s[0x1], low),
-        0x2 => kind_in_lines(profile, a[0x2], s[0x2], low),
-        0x3 => kind_in_lines(profile, a[0x3], s[0x3], low),
-        0x4 => kind_in_lines(profile, a[0x4], s[0x4], low),
-        0x5 => kind_in_lines(profile, a[0x5], s[0x5], low),
-        0x6 => kind_in_lines(profile, a[0x6], s[0x6], low),
-        0x7 => kind_in_lines(profile, a[0x7], s[0x7], low),
-        0x8 => kind_in_lines(profile, a[0x8], s[0x8], low),
-        0x9 => kind_in_lines(profile, a[0x9], s[0x9], low),
-        0xA => kind_in_lines(profile, a[0xA], s[0xA], low),
-        0xB => kind_in_lines(profile, a[0xB], s[0xB], low),
-        0xC => kind_in_lines(profile, a[0xC], s[0xC], low),
-        0xD => kind_in_lines(profile, a[0xD], s[0xD], low),
-        0xE => kind_in_lines(profile, a[0xE], s[0xE], low),
-        _ => kind_in_lines(profile, a[0xF], s[0xF], low),
+        0x0 => kind_in_own(profile, a, s, 0x0, low),
+        0x1 => kind_in_own(profile, a, s, 0x1, low),
+        0x2 => kind_in_own(profile, a, s, 0x2, low),
+        0x3 => kind_in_own(profile, a, s, 0x3, low),
+        0x4 => kind_in_own(profile, a, s, 0x4, low),
+        0x5 => kind_in_own(profile, a, s, 0x5, low),
+        0x6 => kind_in_own(profile, a, s, 0x6, low),
+        0x7 => kind_in_own(profile, a, s, 0x7, low),
+        0x8 => kind_in_own(profile, a, s, 0x8, low),
+        0x9 => kind_in_own(profile, a, s, 0x9, low),
+        0xA => kind_in_own(profile, a, s, 0xA, low),
+        0xB => kind_in_own(profile, a, s, 0xB, low),
+        0xC => kind_in_own(profile, a, s, 0xC, low),
+        0xD => kind_in_own(profile, a, s, 0xD, low),
+        0xE => kind_in_own(profile, a, s, 0xE, low),
+        _ => kind_in_own(profile, a, s, 0xF, low),
     }
 }
 
-// The number at a place, in the profile's own of two lines.
-fn kind_in_lines(profile: Profile, a: [u8; 16], s: [u8; 16], low: u8) -> u8
-    requires { ⌜ low < 16 ⌝ }
-    ensures { λ r. ⌜ r ≡ getD (own profile a s) low 0 ⌝ }
+// The number at a line and a place in it, in the profile's own of two tables.
+fn kind_in_own(profile: Profile, a: [[u8; 16]; 16], s: [[u8; 16]; 16], line: usize, low: u8) -> u8
+    requires { ⌜ (line < 16) × (low < 16) ⌝ }
+    ensures { λ r. ⌜ r ≡ getD (getD (own profile a s) line []) low 0 ⌝ }
 {
     match profile {
-        Profile::A => kind_in_line(a, low),
-        Profile::S => kind_in_line(s, low),
+        Profile::A => kind_in_line(a[line], low),
+        Profile::S => kind_in_line(s[line], low),
     }
 }
 
