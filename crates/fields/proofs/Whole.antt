@@ -5,13 +5,10 @@ use mathlib.Core.List.{List}
 use Prim.Native.Nat.{ℕ, _-_}
 use borrow.Author.Tests.{eq-eqb, ne-eqb, eqb-true}
 use lib.ListN.{length, getD}
+use Rattle.lists.proofs.Tests.{both}
 use Rattle.frame.specs.Frame.{opens, ends, frameLength, dl}
 use Rattle.fields.specs.Fields.{isFrame}
 use Rattle.frame.specs.declared.direction.Direction.{Direction}
-
-and-parts : (s t : Bool) → s && t ≡ true → (s ≡ true) × (t ≡ true)
-and-parts true t e = (refl, e)
-and-parts false t e = (e, cc)
 
 and-false : (s : Bool) → s && false ≡ false
 and-false true = refl
@@ -27,8 +24,8 @@ module _ (dir : Direction) (bytes : List ℕ) where
   pub is-whole : isFrame dir bytes ≡ true → Whole dir bytes
   unfolding isFrame
   is-whole e =
-      let p = and-parts _ _ e in
-      let q = and-parts _ _ (p .1) in
+      let p = both _ _ e in
+      let q = both _ _ (p .1) in
       record { first = eqb-true _ _ (p .0); long = eqb-true _ _ (q .0); last = eqb-true _ _ (q .1) }
 
   pub whole-is : Whole dir bytes → isFrame dir bytes ≡ true

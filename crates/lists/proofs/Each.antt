@@ -1,5 +1,7 @@
--- What holds of each of a list: made of what holds of each, of two lists one behind the other, and of a beginning.
-use mathlib.Core.List.{List, [], _∷_, _++_}
+-- What holds of each of a list: made of what holds of each, of two lists one behind the other, and of a beginning; and two ways
+-- to give something of each, which give the same.
+use mathlib.Core.Path.{_≡_}
+use mathlib.Core.List.{List, [], _∷_, _++_, map}
 use Prim.Native.Nat.{ℕ, zero, suc}
 use lib.ListN.{take}
 use Rattle.lists.specs.Each.{Each}
@@ -20,3 +22,7 @@ pub each-take : {A : Type 0} (P : A → Type 0) (n : ℕ) (xs : List A) → Each
 each-take P zero xs e = tt
 each-take P (suc n) [] e = tt
 each-take P (suc n) (x ∷ xs) e = (e .0, each-take P n xs (e .1))
+
+pub each-same : {A B : Type 0} (f g : A → B) (xs : List A) → map f xs ≡ map g xs → Each (λ (x : A). f x ≡ g x) xs
+each-same f g [] e = tt
+each-same f g (x ∷ xs) e = (cc, each-same f g xs cc)

@@ -1,6 +1,5 @@
 pub mod Readings
 pub mod Writes
-pub mod Tests
 pub mod Tidy
 mod Codes
 pub mod Fits

@@ -16,7 +16,7 @@ use Rattle.message.specs.Content.{wordOf, isLevellerOff, numberIn, value
 use Rattle.message.proofs.Fits.{valueByte, fits}
 use Rattle.message.specs.declared.content.Content.{Content}
 use Rattle.message.specs.declared.content.Content.the-variants.{Up, Down, On, Off, LevellerOff, Number}
-use Rattle.message.proofs.Tests.{both, former, by-value}
+use Rattle.lists.proofs.Tests.{both, former, by-value}
 use Rattle.message.proofs.Tidy.{Tidy}
 use Rattle.message.proofs.Codes.{number-coded}
 

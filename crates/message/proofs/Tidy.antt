@@ -18,7 +18,7 @@ use Rattle.row.specs.declared.table.Row.{Row}
 use Rattle.row.proofs.Rows.{each-found}
 use Rattle.judging.specs.Judge.{within, isWord}
 use Rattle.message.proofs.Fits.{valueByte, inCommand}
-use Rattle.message.proofs.Tests.{both, upto, upto-at}
+use Rattle.lists.proofs.Tests.{both, upto, upto-at}
 
 pub record Tidy (dir : Direction) (row : Row) : Type 0 where
   -- a value is a byte, no word of the row, and not 80 in a signed row

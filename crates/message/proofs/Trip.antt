@@ -40,7 +40,7 @@ use Rattle.message.specs.declared.read.Message.the-variants as message
 use Rattle.message.specs.declared.read.Reading.{Reading}
 use Rattle.message.specs.declared.read.Reading.the-variants as reading
 use Rattle.message.specs.declared.read.FrameReading.the-variants as frame
-use Rattle.message.proofs.Tests.{both}
+use Rattle.lists.proofs.Tests.{both}
 use Rattle.message.proofs.Forms.{form-promise}
 use Rattle.message.proofs.Written.{data-size}
 use Rattle.message.proofs.Readings.{frame-some}

@@ -16,7 +16,7 @@ use Rattle.judging.specs.Judge.{isWord, hasLength, hasValue, hasData}
 use Rattle.message.specs.Content.{wordOf, isLevellerOff, numberIn, valueContent, byteContent, contentOf, encodedOf, encodedCode, encodedData, sizeOf, formNumber, isForm}
 use Rattle.message.specs.declared.content.Content.{Content}
 use Rattle.message.specs.declared.content.Content.the-variants.{Request, Up, Down, On, Off, Toggle, LevellerOff, Number, Input}
-use Rattle.message.proofs.Tests.{both}
+use Rattle.lists.proofs.Tests.{both}
 use Rattle.message.proofs.Codes.{codeBy, coded-number}
 
 -- the forms that hold nothing, by their numbers

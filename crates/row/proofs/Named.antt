@@ -1,14 +1,16 @@
 -- `kind-promise`: a row's number names it. And tables that have the number of each command code: a test over all of their entries, computed at once, and what it says of each.
-use mathlib.Core.Path.{_≡_, refl, sym, ap, subst, _∙_}
-use mathlib.Core.Bool.{Bool, true, false, _&&_}
+use mathlib.Core.Path.{_≡_, refl, sym, ap, _∙_}
+use mathlib.Core.Bool.{Bool, true, _&&_}
 use mathlib.Core.List.{List, [], _∷_, map}
 use Prim.Native.Nat.{ℕ, zero, suc, _-_, _/_, _%_, _<_}
 use native.Mathlib.Numerals.{unary-clauses}
 use native.Mathlib.Omega.{arith}
-use borrow.Author.Tests.{eqb-true, eqb-false}
+use borrow.Author.Tests.{eqb-true}
 use lib.Dec.{eqb}
 use lib.ListN.{length, getD}
 use Rattle.lists.specs.Each.{Each}
+use Rattle.lists.proofs.Each.{each-same}
+use Rattle.lists.proofs.Tests.{both, upto, upto-at}
 use Rattle.row.specs.Profile.{letterOf}
 use Rattle.row.specs.Table.{table, rowCount, rowOf}
 use Rattle.row.specs.Kind.{kindNumber, kindOf, kindAt, HasKinds, rowAt, rowNamed}
@@ -19,26 +21,7 @@ use Rattle.row.specs.declared.profile.Profile.the-variants.{A, S}
 use Rattle.row.specs.declared.table.Row.{Row}
 use Rattle.row.specs.declared.table.Found.{Found}
 use Rattle.row.specs.declared.table.Found.the-variants as found
-use Rattle.row.proofs.Rows.{none-some, each-found, both}
-
--- does a test hold of all numbers below one
-unfoldable pub upto : ℕ → (ℕ → Bool) → Bool
-upto zero test = true
-upto (suc n) test = test n && upto n test
-
-upto-at : (n : ℕ) (test : ℕ → Bool) → upto n test ≡ true → (k : ℕ) → k < n → test k ≡ true
-unfolding upto
-upto-at zero test e k h = absurd (omega arith)
-upto-at (suc n) test e k h = go (eqb k n) refl (upto-at n test (both (test n) (upto n test) e .1) k)
-  where
-    go : (t : Bool) → eqb k n ≡ t → (k < n → test k ≡ true) → test k ≡ true
-    go true f less = subst (λ (m : ℕ). test m ≡ true) (sym (eqb-true k n f)) (both (test n) (upto n test) e .0)
-    go false f less = less (omega (arith, eqb-false k n f))
-
--- two ways to name rows that agree on a list agree on each of it
-each-same : (f g : Row → Found) (rs : List Row) → map f rs ≡ map g rs → Each (λ (r : Row). f r ≡ g r) rs
-each-same f g [] e = tt
-each-same f g (r ∷ rs) e = (cc, each-same f g rs cc)
+use Rattle.row.proofs.Rows.{none-some, each-found}
 
 -- each row stands at the place that it says: computed over the table
 stands : Each (λ (r : Row). rowAt table (r .place) ≡ found.Row r) table

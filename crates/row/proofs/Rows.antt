@@ -1,12 +1,13 @@
 -- `table-promise`, and what is known of the row that is found.
 use mathlib.Core.Path.{_≡_, refl, ap, sym, _∙_, subst}
-use mathlib.Core.Bool.{Bool, true, false, cond, _&&_}
+use mathlib.Core.Bool.{Bool, true, false, cond}
 use mathlib.Core.List.{List, [], _∷_}
 use Prim.Native.Nat.{ℕ}
 use native.Mathlib.Omega.{arith}
 use borrow.Author.Tests.{eqb-true}
 use lib.Dec.{eqb}
 use Rattle.lists.specs.Each.{Each}
+use Rattle.lists.proofs.Tests.{both}
 use Rattle.row.specs.Profile.{letterOf}
 use Rattle.row.specs.TablePromise.{TablePromise}
 use Rattle.row.specs.Table.{table, isRowOf, firstRow}
@@ -28,10 +29,6 @@ each-found P (x ∷ rs) letter command r all e = go (isRowOf letter command x) (
     go : (t : Bool) → (firstRow rs letter command ≡ found.Row r → P r) → cond t (found.Row x) (firstRow rs letter command) ≡ found.Row r → P r
     go true next f = subst P (same x r f) (all .0)
     go false next f = next f
-
-pub both : (s t : Bool) → s && t ≡ true → (s ≡ true) × (t ≡ true)
-both true t e = (refl, e)
-both false t e = (cc, cc)
 
 -- the row that is found has the letter and the command's code
 own-found : (rs : List Row) (letter command : ℕ) (r : Row) → firstRow rs letter command ≡ found.Row r → (r .profile ≡ letter) × (r .code ≡ command)

@@ -10,6 +10,7 @@ use lib.ListN.{length, take, drop, getD, drop-of-length-le}
 use lib.Seq.{length-take-le}
 use Rattle.lists.specs.Each.{Each}
 use Rattle.lists.proofs.Each.{each-map}
+use Rattle.lists.proofs.Tests.{both}
 use Rattle.row.specs.declared.profile.Profile.{Profile}
 use Rattle.row.specs.declared.table.Row.{Row}
 use Rattle.sheet.specs.Sheet.{sheetLimit, linesOf}
@@ -71,15 +72,11 @@ unfolding allHold
 all-if t [] w = refl
 all-if t (l ∷ ls) w = rw (holds-if t l (w .0), all-if t ls (w .1))
 
-and-true : (a b : Bool) → a && b ≡ true → (a ≡ true) × (b ≡ true)
-and-true true b e = (refl, e)
-and-true false b e = let z : _≡_ {A = ℕ} 0 1 = cc in absurd (omega arith)
-
 all-only : (t : Tracker) (ls : List Line) → allHold t ls ≡ true → Each (IsHeld t) ls
 unfolding allHold
 all-only t [] e = tt
 all-only t (l ∷ ls) e =
-    let w = and-true (holds t l) (allHold t ls) e in
+    let w = both (holds t l) (allHold t ls) e in
     (holds-only (keptIn t (l .zone) (l .command)) (l .value) (w .0), all-only t ls (w .1))
 
 yes-only : (v : Verdict) (b : Bool) → signedBy v b ≡ Yes → (v ≡ verdict.Accepted) × (b ≡ true)

@@ -19,7 +19,7 @@ use Rattle.judging.specs.Judge.{isSetting, rowJudged}
 use Rattle.judging.specs.declared.judge.Judged.{Judged}
 use Rattle.judging.specs.declared.judge.Judged.the-variants as judged
 use Rattle.judging.proofs.Judges.{judged-lies}
-use Rattle.message.proofs.Tests.{both}
+use Rattle.lists.proofs.Tests.{both}
 use Rattle.message.proofs.Tidy.{every, row-passes}
 use Rattle.sheet.specs.Line.{legalIn, isLegal}
 use Rattle.sheet.specs.declared.line.Line.{Line}

@@ -28,7 +28,7 @@ use Rattle.message.specs.declared.read.Reading.the-variants as reading
 use Rattle.judging.proofs.Judges.{Lies, lies-judged, judged-lies, judge-passes, same-row}
 use Rattle.message.proofs.Fits.{codeFits, fits}
 use Rattle.message.proofs.Forms.{form-promise, form-fits}
-use Rattle.message.proofs.Tests.{both, upto, upto-at}
+use Rattle.lists.proofs.Tests.{both, upto, upto-at}
 use Rattle.message.proofs.Tidy.{every, row-passes}
 use Rattle.unit.specs.House.{valueAfter}
 use Rattle.unit.specs.Unit.{Setting, value, input, current, Settings, sameSetting, put, named, about, Done, refused, acted, actedIn, doneBy, zoneIn, commandIn, heard, frameDone}

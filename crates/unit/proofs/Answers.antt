@@ -28,7 +28,7 @@ use Rattle.message.specs.declared.read.Reading.the-variants as reading
 use Rattle.judging.proofs.Judges.{first-number, judge-numbers, passes-judge}
 use Rattle.message.proofs.Order.{order-promise}
 use Rattle.message.proofs.Readings.{frame-some}
-use Rattle.message.proofs.Tests.{both}
+use Rattle.lists.proofs.Tests.{both}
 use Rattle.unit.specs.House.{valueAfter}
 use Rattle.unit.specs.Unit.{Setting, value, input, current, Settings, put, about, shown, Done, refusalCode, acted, zoneIn, commandIn, heard, frameDone}
 use Rattle.lists.proofs.Each.{each-append}

@@ -3,7 +3,7 @@ use mathlib.Core.Path.{_≡_, refl, ap, fun-ext}
 use mathlib.Core.Bool.{Bool, true, false, cond}
 use borrow.Author.Tests.{eq-eqb, eqb-true}
 use lib.Dec.{eqb}
-use Rattle.message.proofs.Tests.{both}
+use Rattle.lists.proofs.Tests.{both}
 use Rattle.unit.specs.Unit.{Setting, value, input, current, Settings, sameSetting, put}
 use Rattle.unit.proofs.Tests.{clash}
 

@@ -28,7 +28,7 @@ use Rattle.message.specs.declared.content.Encoded.{Encoded}
 use Rattle.message.specs.declared.content.Encoded.the-variants.{One, Two, NoCode}
 use Rattle.message.proofs.Fits.{codeFits, fits}
 use Rattle.message.proofs.Forms.{form-promise, form-fits}
-use Rattle.message.proofs.Tests.{both, upto, upto-at}
+use Rattle.lists.proofs.Tests.{both, upto, upto-at}
 use Rattle.message.proofs.Tidy.{areBytes, code-byte, every, row-passes}
 use Rattle.unit.specs.House.{isNotCalculated, unlessNotCalculated, landed, stepped, coded, valueAfter}
 use Rattle.unit.specs.HousePromise.{IsNumber, Highest, Lowest, Steps, HousePromise}

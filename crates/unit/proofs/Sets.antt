@@ -22,7 +22,7 @@ use Rattle.message.specs.declared.read.Message.the-variants as message
 use Rattle.message.specs.declared.read.Reading.the-variants as reading
 use Rattle.judging.proofs.Judges.{judged-lies, judge-legal}
 use Rattle.message.proofs.Readings.{message-legal}
-use Rattle.message.proofs.Tests.{both}
+use Rattle.lists.proofs.Tests.{both}
 use Rattle.message.proofs.Tidy.{every, row-passes}
 use Rattle.sheet.specs.Line.{legalIn, isLegal}
 use Rattle.sheetfile.specs.Run.{lineFrame}

@@ -8,7 +8,7 @@ use Rattle.row.specs.declared.profile.Profile.{Profile}
 use Rattle.row.specs.declared.table.Row.{Row}
 use Rattle.judging.specs.Judge.{isAnswer, isPair, rowJudged}
 use Rattle.judging.specs.declared.judge.Judged.the-variants as judged
-use Rattle.message.proofs.Tests.{both}
+use Rattle.lists.proofs.Tests.{both}
 use Rattle.unit.specs.Unit.{Setting, value, input, current, Settings, sameSetting, put}
 use Rattle.unit.specs.Legal.{LegalSettings, RowIn}
 use Rattle.unit.specs.SettingsPromise.{PutPromise, LegalPromise}

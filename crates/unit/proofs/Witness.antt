@@ -31,7 +31,7 @@ use Rattle.unit.specs.Sending.{settingOf, NotOn, sending, sendings}
 use Rattle.unit.specs.UnitTablePromise.{zeroSettings}
 use Rattle.unit.specs.Demand3.{stopped, moment, Promised}
 use Rattle.unit.specs.SendingPromise.{SendingPromise, FlushPromise}
-use Rattle.message.proofs.Tests.{both}
+use Rattle.lists.proofs.Tests.{both}
 use Rattle.unit.proofs.Cells.{cell-self}
 use Rattle.unit.proofs.Tests.{clash}
 use Rattle.judging.proofs.Judges.{judged-lies}

@@ -4,7 +4,7 @@ use mathlib.Core.Path.{sym, _∙_}
 use borrow.Author.Tests.{not-true, not-false}
 use Rattle.judging.specs.Judge.{hasLength, hasValue}
 use Rattle.judging.proofs.Judges.{length-some}
-use Rattle.message.proofs.Tests.{both}
+use Rattle.lists.proofs.Tests.{both}
 use borrow.Author.Needs.{needs}
 use Rattle.message.proofs.content.is_said.Statement.{statement}
 use Rattle.message.proofs.content.is_said.Tie as tie

@@ -1,9 +1,10 @@
 -- `row::table::kind_of` meets its contract: the code's own two tables are computed against the rows, all of their entries at once.
 use mathlib.Core.Path.{refl}
 use borrow.Author.Needs.{needs}
+use Rattle.lists.proofs.Tests.{upto}
 use Rattle.row.specs.Table.{table, firstRow}
 use Rattle.row.specs.Kind.{kindAt}
-use Rattle.row.proofs.Named.{upto, tables-have}
+use Rattle.row.proofs.Named.{tables-have}
 use Rattle.row.proofs.table.kind_of.Statement.{statement}
 use Rattle.row.proofs.table.kind_of.Tie as tie
 

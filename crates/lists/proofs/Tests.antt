@@ -1,4 +1,4 @@
--- What tests joined say of each, and a test over all bytes.
+-- What tests joined say of each, and a test over all numbers below one, computed at once.
 use mathlib.Core.Path.{_≡_, refl, sym, subst}
 use mathlib.Core.Bool.{Bool, true, false, _&&_, _||_}
 use Prim.Native.Nat.{ℕ, zero, suc, _<_}
@@ -22,6 +22,7 @@ by-value P b k p q = go (eqb b k) refl
     go true e = subst P (sym (eqb-true b k e)) p
     go false e = q e
 
+-- does a test hold of all numbers below one
 unfoldable pub upto : ℕ → (ℕ → Bool) → Bool
 upto zero test = true
 upto (suc n) test = test n && upto n test
