@@ -93,7 +93,8 @@ fn put_unread(number: u8, buf: &mut [u8], at: usize) -> usize
     put_bytes(buf, second, b"\n")
 }
 
-// What a line shows of a message: what it says and whether it is an answer, or a denial.
+// What a line shows of a message: what it says and whether it is an answer, or a denial. So commands and statuses are
+// put by one call, which the compiler takes in.
 enum Shown {
     Said(Said, bool),
     Denied(Denial),
@@ -129,7 +130,8 @@ fn put_said(said: Said, answered: bool, buf: &mut [u8], at: usize) -> usize
     put_last(content, buf, value)
 }
 
-// The answer with a space on either side: a dash in commands; a status was answered with 00. Each text is put as it stands: one that is passed on is copied byte by byte.
+// The answer with a space on either side: a dash in commands; a status was answered with 00. Each text is put as it
+// stands: one that is passed on is copied byte by byte.
 fn put_answer(answered: bool, buf: &mut [u8], at: usize) -> usize
     requires { ⌜ at + 4 ≤ length (now buf) ⌝ }
     ensures { λ r. ⌜ Put 4 (now (buf .entry)) at (answerText answered) (now (buf .exit)) r ⌝ }

@@ -1,4 +1,5 @@
--- Promise: "Show once over both tables that each code gives document 01's row or none." That the code's own two tables have each code's number is asked where the code looks a number up, and is computed there, of both at once.
+-- Promise: "Show once over both tables that each code gives document 01's row or none." The code's look-up asks of its two tables that
+-- they have each code's number (`HasKinds`); that is computed of all their entries at once.
 use mathlib.Core.Path.{_≡_}
 use mathlib.Core.List.{List, [], _∷_, map}
 use Prim.Native.Nat.{ℕ, _<_}
