@@ -28,6 +28,7 @@ pub(crate) struct Counts {
     third: u64,
     fourth: u64,
     fifth: u64,
+    thirteenth: u64,
 }
 
 fn none() -> Counts {
@@ -38,6 +39,7 @@ fn none() -> Counts {
         third: 0,
         fourth: 0,
         fifth: 0,
+        thirteenth: 0,
     }
 }
 
@@ -111,6 +113,9 @@ fn counted_as(counts: Counts, number: u8) -> Counts {
     if number == 5 {
         next.fifth = one_more(next.fifth);
     }
+    if number == 13 {
+        next.thirteenth = one_more(next.thirteenth);
+    }
     next
 }
 
@@ -145,7 +150,8 @@ fn say_counts(counts: Counts) {
     say_count(2, counts.second);
     say_count(3, counts.third);
     say_count(4, counts.fourth);
-    say_count(5, counts.fifth)
+    say_count(5, counts.fifth);
+    say_count(13, counts.thirteenth)
 }
 
 // How many got a refusal.

@@ -1,25 +1,28 @@
 -- What a judgement says of its rules.
 use mathlib.Core.Path.{_≡_, refl, ap, sym, _∙_, subst}
-use mathlib.Core.Bool.{Bool, true, false, cond, not, _||_}
+use mathlib.Core.Bool.{Bool, true, false, cond, not, _&&_, _||_}
+use mathlib.Core.Bool as bool
 use mathlib.Core.List.{List, [], _∷_}
 use mathlib.Core.Logic.{inl, inr}
 use Prim.Native.Nat.{ℕ, _<_}
 use native.Mathlib.Omega.{arith}
-use borrow.Author.Tests.{eqb-true, eqb-false, not-false}
+use borrow.Author.Tests.{eqb-true, eqb-false, not-true, not-false}
 use lib.Dec.{eqb, ltb}
-use lib.ListN.{length}
+use lib.ListN.{length, getD}
 use Rattle.lists.specs.Each.{Each}
+use Rattle.lists.proofs.Tests.{both}
 use Rattle.refusals.specs.Rule.{Rule, rule, ruled}
 use Rattle.refusals.specs.RulePromise.{FirstApplies}
 use Rattle.frame.specs.declared.direction.Direction.{Direction}
-use Rattle.refusals.proofs.Ruled.{refuses, was-accepted, pass-first}
+use Rattle.frame.specs.declared.direction.Direction.the-variants.{Command, Answer}
+use Rattle.refusals.proofs.Ruled.{refuses, was-accepted, or-false, pass-first}
 use Rattle.row.specs.Profile.{zonesOf}
 use Rattle.row.specs.Table.{rowOf}
 use Rattle.row.specs.declared.profile.Profile.{Profile}
 use Rattle.row.specs.declared.table.Row.{Row}
 use Rattle.row.specs.declared.table.Found.{Found}
 use Rattle.row.specs.declared.table.Found.the-variants as found
-use Rattle.judging.specs.Judge.{hasLength, hasValue, wrongProfileZone, wrongRowZone, wrongLength, wrongValue, byRow, rowRules, judgeRules, judgedBy, rowJudged, judgedOf}
+use Rattle.judging.specs.Judge.{hasByte, hasLength, hasValue, wrongProfileZone, wrongRowZone, wrongLength, isStepOrRequest, lacksStep, valueRules, valueRefusal, byRow, rowRules, dataRules, judgeRules, judgedBy, rowJudged, judgedOf}
 use Rattle.judging.specs.declared.judge.Judged.the-variants.{Legal, Refused}
 
 legal-differs : {X : Type 0} (row : Row) (n : ℕ) → Legal row ≡ Refused n → X
@@ -102,6 +105,38 @@ module _ (profile : Profile) (zone command : ℕ) where
           let two = pass-first (wrongRowZone r zone) (more r) (one .1) in
           record { row = r; lies = record { there = q; within = one .0; reaches = two .0 }; rest = two .1 }
 
+-- a step or request that a row lacks is a value that it lacks
+pub lacks-value : (row : Row) (body : List ℕ) → lacksStep row body ≡ true → hasValue Command row body ≡ false
+lacks-value row body e =
+    let byte = getD body 0 0 in
+    let (one, rest) = both (eqb (length body) 1) (isStepOrRequest byte && not (hasByte Command row byte)) e in
+    let lacks = both (isStepOrRequest byte) (not (hasByte Command row byte)) rest .1 in
+    rw (eqb-true (length body) 1 one, not-true (hasByte Command row byte) lacks)
+
+-- rules of a length, and at 4's place of unfit data: these give their one number, where a value that the row lacks is unfit
+module _ (row : Row) (n : ℕ) (body : List ℕ) (unfit : Bool) where
+  pub value-goes : (dir : Direction) → (hasValue dir row body ≡ false → unfit ≡ true) → {A : Type 0} (refuse : ℕ → A) (accepted : A)
+      → ruled (wrongLength dir row n ∷ valueRules dir row body unfit) refuse accepted
+      ≡ cond (not (hasLength dir row n)) (refuse 3) (cond unfit (refuse (valueRefusal dir row body)) accepted)
+  value-goes Answer covers refuse accepted = refl
+  value-goes Command covers refuse accepted = ap (cond (not (hasLength Command row n)) (refuse 3)) (go (lacksStep row body) unfit (λ e. covers (lacks-value row body e)))
+    where
+      go : (t w : Bool) → (t ≡ true → w ≡ true) → cond t (refuse 13) (cond (w && not t) (refuse 4) accepted) ≡ cond w (refuse (cond t 13 (cond (not t) 4 0))) accepted
+      go true true f = refl
+      go true false f = let z : _≡_ {A = ℕ} 0 1 = ap (λ (t : Bool). cond t 1 0) (f refl) in absurd (omega (arith, z))
+      go false true f = refl
+      go false false f = refl
+
+  pub value-refuses : (dir : Direction) → (hasValue dir row body ≡ false → unfit ≡ true)
+      → refuses (wrongLength dir row n ∷ valueRules dir row body unfit) ≡ not (hasLength dir row n) || unfit
+  value-refuses Answer covers = rw (bool.or-false unfit)
+  value-refuses Command covers = ap (_||_ (not (hasLength Command row n))) (go (lacksStep row body) unfit (λ e. covers (lacks-value row body e)))
+    where
+      go : (t w : Bool) → (t ≡ true → w ≡ true) → t || (w && not t || false) ≡ w
+      go true w f = sym (f refl)
+      go false true f = refl
+      go false false f = refl
+
 -- what is judged legal: its row, and that length and value are the row's
 pub record Passes (profile : Profile) (dir : Direction) (zone command : ℕ) (body : List ℕ) : Type 0 where
   pub row : Row
@@ -110,29 +145,33 @@ pub record Passes (profile : Profile) (dir : Direction) (zone command : ℕ) (bo
   pub value : hasValue dir row body ≡ true
 
 module _ (profile : Profile) (dir : Direction) (zone command : ℕ) (body : List ℕ) where
-  abbrev more : Row → List Rule
-  more row = wrongLength dir row (length body) ∷ wrongValue dir row body ∷ []
+  -- data whose value the row lacks are unfit
+  abbrev unfit : Row → Bool
+  unfit row = not (hasValue dir row body)
 
   pub judge-passes : refuses (judgeRules profile dir zone command body) ≡ false → Passes profile dir zone command body
   judge-passes e =
-      let p = pass-row profile zone command more e in
-      let length-fits = pass-first (wrongLength dir (p .row) (length body)) (wrongValue dir (p .row) body ∷ []) (p .rest) in
-      let value-fits = pass-first (wrongValue dir (p .row) body) [] (length-fits .1) in
-      record { row = p .row; lies = p .lies; long = not-false _ (length-fits .0); value = not-false _ (value-fits .0) }
+      let p = pass-row profile zone command (dataRules dir body) e in
+      let row = p .row in
+      let (long, value) = or-false (not (hasLength dir row (length body))) (unfit row) (sym (value-refuses row (length body) body (unfit row) dir (ap not)) ∙ p .rest) in
+      record { row = row; lies = p .lies; long = not-false _ long; value = not-false _ value }
 
   pub passes-judge : (row : Row) → Lies profile zone command row → hasLength dir row (length body) ≡ true → hasValue dir row body ≡ true
       → refuses (judgeRules profile dir zone command body) ≡ false
-  passes-judge row l long value = lies-refuses profile zone command row l more ∙ rw (long, value)
+  passes-judge row l long value =
+      lies-refuses profile zone command row l (dataRules dir body) ∙ value-refuses row (length body) body (unfit row) dir (ap not) ∙ rw (long, value)
 
   -- a judgement goes on from that of zone and row
   pub judge-refused : (n : ℕ) → rowJudged profile zone command ≡ Refused n → judgedOf profile dir zone command body ≡ Refused n
   unfolding judgedOf
-  judge-refused n e = row-refused profile zone command n e more Refused _
+  judge-refused n e = row-refused profile zone command n e (dataRules dir body) Refused _
 
   pub judge-legal : (row : Row) → rowJudged profile zone command ≡ Legal row
-      → judgedOf profile dir zone command body ≡ cond (not (hasLength dir row (length body))) (Refused 3) (cond (not (hasValue dir row body)) (Refused 4) (Legal row))
+      → judgedOf profile dir zone command body ≡ cond (not (hasLength dir row (length body))) (Refused 3) (cond (unfit row) (Refused (valueRefusal dir row body)) (Legal row))
   unfolding judgedOf
-  judge-legal row e = let l = judged-lies profile zone command row e in lies-goes profile zone command row l more Refused _ ∙ rw (l .there)
+  judge-legal row e =
+      let l = judged-lies profile zone command row e in
+      lies-goes profile zone command row l (dataRules dir body) Refused _ ∙ value-goes row (length body) body (unfit row) dir (ap not) Refused _ ∙ rw (l .there)
 
   -- what is judged legal passes, in its row
   pub judged-passes : (row : Row) → judgedOf profile dir zone command body ≡ Legal row
@@ -147,7 +186,7 @@ module _ (profile : Profile) (dir : Direction) (zone command : ℕ) (body : List
       the-row found.NoRow g = legal-differs row 2 (sym g)
 
 -- what holds of each rule's number holds of the first that applies; of rules of a row it is asked of two beside the row's own, and
--- of what judges data of four
+-- of what judges data of 3 as well, and of the numbers at 4's place
 pub first-number : (P : ℕ → Type 0) (rs : List Rule) → Each (λ (r : Rule). P (r .number)) rs → (n : ℕ) → FirstApplies rs n → P n
 first-number P [] e n w = absurd w
 first-number P (r ∷ rs) e n (inl w) = subst P (w .1) (e .0)
@@ -161,9 +200,19 @@ row-numbers P one two profile zone command more rest = go (rowOf profile command
     go found.NoRow = (one, (two, tt))
     go (found.Row row) = (one, (one, rest row))
 
-pub judge-numbers : (P : ℕ → Type 0) → P 1 → P 2 → P 3 → P 4 → (profile : Profile) (dir : Direction) (zone command : ℕ) (body : List ℕ)
+abbrev pub valueNumbers : Direction → List ℕ
+valueNumbers Command = 13 ∷ 4 ∷ []
+valueNumbers Answer = 4 ∷ []
+
+pub value-numbers : (P : ℕ → Type 0) (dir : Direction) → Each P (valueNumbers dir) → (row : Row) (body : List ℕ) (unfit : Bool)
+    → Each (λ (r : Rule). P (r .number)) (valueRules dir row body unfit)
+value-numbers P Command each row body unfit = each
+value-numbers P Answer each row body unfit = each
+
+pub judge-numbers : (P : ℕ → Type 0) → P 1 → P 2 → P 3 → (profile : Profile) (dir : Direction) → Each P (valueNumbers dir) → (zone command : ℕ) (body : List ℕ)
     → Each (λ (r : Rule). P (r .number)) (judgeRules profile dir zone command body)
-judge-numbers P one two three four profile dir zone command body = row-numbers P one two profile zone command (more profile dir zone command body) (λ row. (three, (four, tt)))
+judge-numbers P one two three profile dir each zone command body =
+    row-numbers P one two profile zone command (dataRules dir body) (λ row. (three, value-numbers P dir each row body (not (hasValue dir row body))))
 
 -- data whose length fits are not empty
 pub length-some : (dir : Direction) (row : Row) (n : ℕ) → hasLength dir row n ≡ true → 0 < n

@@ -7,7 +7,7 @@ use Rattle.frame.specs.declared.direction.Direction.{Direction}
 use Rattle.refusals.proofs.One.{one}
 use Rattle.row.specs.declared.profile.Profile.{Profile}
 use Rattle.row.specs.declared.table.Row.{Row}
-use Rattle.judging.specs.Judge.{isSetting, isAnswer, isWord, hasLength, hasData, rowJudged, judgedOf}
+use Rattle.judging.specs.Judge.{isSetting, isAnswer, isWord, hasLength, hasData, valueRefusal, rowJudged, judgedOf}
 
 pub judge-one : (profile : Profile) (direction : Direction) (zone command : ℕ) (body : List ℕ)
     → OneAnswer (λ x. x ≡ judgedOf profile direction zone command body)
@@ -30,3 +30,6 @@ length-fits-one direction row length = one (hasLength direction row length)
 
 pub data-fit-one : (direction : Direction) (row : Row) (body : List ℕ) → OneAnswer (λ x. x ≡ hasData direction row body)
 data-fit-one direction row body = one (hasData direction row body)
+
+pub value-refusal-one : (direction : Direction) (row : Row) (body : List ℕ) → OneAnswer (λ x. x ≡ valueRefusal direction row body)
+value-refusal-one direction row body = one (valueRefusal direction row body)

@@ -1,6 +1,6 @@
 -- The first rule that applies gives its number; a row comes exactly when none applies. Zone and row come before what more a row asks.
 use mathlib.Core.Path.{_≡_, refl, ap, sym, _∙_}
-use mathlib.Core.Bool.{true, false}
+use mathlib.Core.Bool.{true, false, not}
 use mathlib.Core.List.{List, [], _∷_}
 use mathlib.Core.Logic.{_⊎_, inl, inr}
 use Prim.Native.Nat.{ℕ}
@@ -10,17 +10,19 @@ use Rattle.refusals.specs.Rule.{Rule, ruled}
 use Rattle.refusals.specs.RulePromise.{FirstApplies, NoneApplies}
 use Rattle.refusals.proofs.Ruled.{refuses, pass-both}
 use Rattle.refusals.proofs.Rules.{rule-promise}
+use Rattle.frame.specs.declared.direction.Direction.{Direction}
+use Rattle.frame.specs.declared.direction.Direction.the-variants.{Command, Answer}
 use Rattle.row.specs.Table.{rowOf}
 use Rattle.row.specs.declared.profile.Profile.{Profile}
 use Rattle.row.specs.declared.table.Row.{Row}
 use Rattle.row.specs.declared.table.Found.{Found}
 use Rattle.row.specs.declared.table.Found.the-variants as found
-use Rattle.judging.specs.Judge.{wrongProfileZone, wrongRowZone, byRow, rowRules, judgedBy, rowJudged, judgedOf}
+use Rattle.judging.specs.Judge.{hasValue, wrongProfileZone, wrongRowZone, byRow, rowRules, dataRules, judgedBy, rowJudged, judgedOf}
 use Rattle.judging.specs.Numbers.{judgedNumber}
 use Rattle.judging.specs.JudgePromise.{JudgedInOrder, JudgePromise}
 use Rattle.judging.specs.declared.judge.Judged.{Judged}
 use Rattle.judging.specs.declared.judge.Judged.the-variants.{Legal, Refused}
-use Rattle.judging.proofs.Judges.{Lies, pass-row, first-number, row-numbers}
+use Rattle.judging.proofs.Judges.{Lies, pass-row, first-number, row-numbers, valueNumbers, value-numbers}
 
 pub none-refuses : (rs : List Rule) → NoneApplies rs → refuses rs ≡ false
 none-refuses [] w = refl
@@ -92,9 +94,14 @@ module _ (profile : Profile) (zone command : ℕ) (more : Row → List Rule) whe
           go (inl w) = absurd (first-number Some rules (row-numbers Some (λ e. omega arith) (λ e. omega arith) profile zone command more numbers) (w .0) (w .1) (sym (number (w .0) (w .1)) ∙ zero))
           go (inr w) = w
 
+value-some : (dir : Direction) → Each Some (valueNumbers dir)
+value-some Command = ((λ e. omega arith), ((λ e. omega arith), tt))
+value-some Answer = ((λ e. omega arith), tt)
+
 pub judge-promise : JudgePromise
 unfolding rowJudged judgedOf
 judge-promise = record {
   row = λ profile zone command. judged-by profile zone command (λ row. []) (λ row. tt);
-  body = λ profile dir zone command body. judged-by profile zone command _ (λ row. ((λ e. omega arith), ((λ e. omega arith), tt)));
+  body = λ profile dir zone command body.
+      judged-by profile zone command (dataRules dir body) (λ row. ((λ e. omega arith), value-numbers Some dir (value-some dir) row body (not (hasValue dir row body))));
 }

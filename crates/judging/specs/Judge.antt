@@ -1,4 +1,4 @@
--- Document 01, 'Commands of the two profiles' and 'Refusal numbers', lines 1 to 4.
+-- Document 01, 'Commands of the two profiles' and 'Refusal numbers', lines 1 to 4; document 02, C-11, refusal 13.
 use Prim.Native.Nat.{ℕ}
 use mathlib.Core.Bool.{Bool, true, false, cond, not, _&&_, _||_}
 use mathlib.Core.List.{List, [], _∷_}
@@ -66,12 +66,31 @@ wrongProfileZone profile zone = rule 1 (eqb zone 0 || ltb (zonesOf profile) zone
 abbrev pub wrongRowZone : Row → ℕ → Rule
 wrongRowZone row zone = rule 1 (ltb (row .zones) zone)
 
--- 3: "data length that the row and direction lack"; 4: "data value that the row and direction lack"
+-- 3: "data length that the row and direction lack"
 abbrev pub wrongLength : Direction → Row → ℕ → Rule
 wrongLength dir row n = rule 3 (not (hasLength dir row n))
 
-abbrev pub wrongValue : Direction → Row → List ℕ → Rule
-wrongValue dir row body = rule 4 (not (hasValue dir row body))
+-- "F0, F1 or F2"
+abbrev pub isStepOrRequest : ℕ → Bool
+isStepOrRequest b = eqb b 0xF0 || (eqb b 0xF1 || eqb b 0xF2)
+
+-- "A command byte F0, F1 or F2 that the row lacks": the data are that one byte. "S 0F with two data bytes keeps 4."
+abbrev pub lacksStep : Row → List ℕ → Bool
+lacksStep row body = eqb (length body) 1 && (isStepOrRequest (getD body 0 0) && not (hasByte Command row (getD body 0 0)))
+
+-- 13: "step or request that this row does not have"
+abbrev pub wrongStep : Row → List ℕ → Rule
+wrongStep row body = rule 13 (lacksStep row body)
+
+-- 4: "data value that the row and direction lack". In commands 13 comes "at 4's place in the order", and "4 stays for a setting code
+-- outside the row's codes, and for all answers". Whether data are unfit is asked of the value, and in writing of the typed form too.
+abbrev pub valueRules : Direction → Row → List ℕ → Bool → List Rule
+valueRules Command row body unfit = wrongStep row body ∷ rule 4 (unfit && not (lacksStep row body)) ∷ []
+valueRules Answer row body unfit = rule 4 unfit ∷ []
+
+-- the number that these rules give where the data are unfit
+abbrev pub valueRefusal : Direction → Row → List ℕ → ℕ
+valueRefusal dir row body = ruled (valueRules dir row body true) (λ n. n) 0
 
 -- 2: "command without a row in the profile"; a command with a row goes by rules of that row
 abbrev pub byRow : Found → (Row → List Rule) → List Rule
@@ -82,9 +101,12 @@ byRow (found.Row row) rules = rules row
 abbrev pub rowRules : Profile → ℕ → ℕ → (Row → List Rule) → List Rule
 rowRules profile zone command more = wrongProfileZone profile zone ∷ byRow (rowOf profile command) (λ row. wrongRowZone row zone ∷ more row)
 
--- "3, 4"
+-- "3, 4", or 13
+abbrev pub dataRules : Direction → List ℕ → Row → List Rule
+dataRules dir body row = wrongLength dir row (length body) ∷ valueRules dir row body (not (hasValue dir row body))
+
 abbrev pub judgeRules : Profile → Direction → ℕ → ℕ → List ℕ → List Rule
-judgeRules profile dir zone command body = rowRules profile zone command (λ row. wrongLength dir row (length body) ∷ wrongValue dir row body ∷ [])
+judgeRules profile dir zone command body = rowRules profile zone command (dataRules dir body)
 
 -- the row that was found; without one it is 2 here too
 abbrev pub judgedBy : Found → Judged

@@ -1,4 +1,5 @@
--- What must be believed: the rules of the refusals 1 to 4, and the number of an answer; then the promise.
+-- What must be believed: the rules of the refusals 1 to 4 and 13, and the number of an answer; then the promises.
 pub mod Judge
 pub mod Numbers
 pub mod JudgePromise
+pub mod StepPromise

@@ -6,7 +6,7 @@ use row::table::Row;
 ghost use mathlib.Core.Path.{_≡_};
 ghost use Prim.Native.Nat.{_<_};
 ghost use lib.ListN.{length};
-ghost use Rattle.judging.specs.Judge.{within, isSetting, isAnswer, isWord, isPair, hasByte, hasLength, hasValue, hasData, rowJudged, judgedOf};
+ghost use Rattle.judging.specs.Judge.{within, isSetting, isAnswer, isWord, isPair, hasByte, hasLength, hasValue, hasData, isStepOrRequest, lacksStep, valueRefusal, rowJudged, judgedOf};
 ghost use Rattle.frame.specs.declared.direction.Direction.the-variants as direction;
 ghost use mathlib.Core.Bool.{_||_};
 
@@ -16,7 +16,7 @@ pub enum Judged {
     Refused(u8),
 }
 
-// Judges zone, row, length and value of a message: 1 for the profile's zones, 2, 1 for the row's zones, 3, 4.
+// Judges zone, row, length and value of a message: 1 for the profile's zones, 2, 1 for the row's zones, 3, 4 or 13.
 pub fn judge(profile: Profile, direction: Direction, zone: u8, command: u8, body: &[u8]) -> Judged
     ensures { λ r. ⌜ r ≡ judgedOf profile direction zone command (now (body .entry)) ⌝ }
 {
@@ -28,7 +28,7 @@ pub fn judge(profile: Profile, direction: Direction, zone: u8, command: u8, body
         return Judged::Refused(3);
     }
     if !value_fits(direction, row, body) {
-        return Judged::Refused(4);
+        return Judged::Refused(value_refusal(direction, row, body));
     }
     Judged::Legal(row)
 }
@@ -91,6 +91,51 @@ fn value_fits(direction: Direction, row: Row, body: &[u8]) -> bool
         Direction::Command => command_fits(row, body[0]),
         Direction::Answer => is_answer(row, body[0]),
     }
+}
+
+// The number of data that don't fit a row in a direction: 13 for a command's step or request that the row
+// lacks, else 4.
+pub fn value_refusal(direction: Direction, row: Row, body: &[u8]) -> u8
+    ensures { λ r. ⌜ r ≡ valueRefusal direction row (now (body .entry)) ⌝ }
+{
+    match direction {
+        Direction::Command => command_refusal(row, body),
+        Direction::Answer => 4,
+    }
+}
+
+fn command_refusal(row: Row, body: &[u8]) -> u8
+    ensures { λ r. ⌜ r ≡ valueRefusal direction.Command row (now (body .entry)) ⌝ }
+{
+    if lacks_step(row, body) {
+        return 13;
+    }
+    4
+}
+
+// Whether a command's data are one byte F0, F1 or F2 that the row lacks.
+fn lacks_step(row: Row, body: &[u8]) -> bool
+    ensures { λ r. ⌜ r ≡ lacksStep row (now (body .entry)) ⌝ }
+{
+    if body.len() != 1 {
+        return false;
+    }
+    if !is_step_or_request(body[0]) {
+        return false;
+    }
+    !command_fits(row, body[0])
+}
+
+fn is_step_or_request(byte: u8) -> bool
+    ensures { λ r. ⌜ r ≡ isStepOrRequest byte ⌝ }
+{
+    if byte == 0xF0 {
+        return true;
+    }
+    if byte == 0xF1 {
+        return true;
+    }
+    byte == 0xF2
 }
 
 // Whether a row has this pair: an input of the row, and 00 or 01.

@@ -7,7 +7,7 @@ use native.Mathlib.Omega.{arith}
 use borrow.Author.Tests.{not-false, eqb-true}
 use lib.Dec.{eqb}
 use lib.ListN.{length}
-use Rattle.refusals.specs.Rule.{Rule, rule}
+use Rattle.refusals.specs.Rule.{Rule}
 use Rattle.frame.specs.Frame.{frameOf}
 use Rattle.lent.specs.Placed.{placed}
 use Rattle.fields.specs.Raw.{tooLong}
@@ -17,7 +17,7 @@ use Rattle.fields.specs.declared.fields.Fields.{Fields}
 use Rattle.fields.specs.declared.fields.Brought.the-variants as brings
 use Rattle.frame.specs.declared.direction.Direction.the-variants.{Command, Answer}
 use Rattle.lent.specs.declared.written.Written.the-variants as written
-use Rattle.refusals.proofs.Ruled.{refuses, was-accepted, accepted-by, pass-first, pass-both}
+use Rattle.refusals.proofs.Ruled.{refuses, was-accepted, accepted-by, or-false, pass-first, pass-both}
 use Rattle.fields.proofs.Back.{frame-promise, placed-found, placed-bytes}
 use Rattle.fields.proofs.Again.{frame-again}
 use Rattle.row.specs.Table.{rowOf}
@@ -25,11 +25,11 @@ use Rattle.row.specs.declared.profile.Profile.{Profile}
 use Rattle.row.specs.declared.table.Row.{Row}
 use Rattle.row.specs.declared.table.Found.{Found}
 use Rattle.row.specs.declared.table.Found.the-variants as found
-use Rattle.judging.specs.Judge.{hasLength, hasValue, wrongLength, judgeRules}
+use Rattle.judging.specs.Judge.{hasLength, hasValue, judgeRules}
 use Rattle.judging.proofs.Judges.{lies-refuses, pass-row, judge-passes, passes-judge}
 use Rattle.message.specs.Content as content
 use Rattle.message.specs.Message.{isDenial, wrongCode, said, denial, readRules, messageIn, messageOf, readOf, deniedData, fromReading, frameRead}
-use Rattle.message.specs.Write.{saidRules, saidIn, saidData, notDenied, messageDirection, writeRules, messageFrame}
+use Rattle.message.specs.Write.{formRules, saidRules, saidIn, saidData, notDenied, messageDirection, writeRules, messageFrame}
 use Rattle.lent.specs.Written.{writeAnswered, writeLeft}
 use Rattle.lent.proofs.Writes.{write-promise, write-passed, write-fits}
 use Rattle.message.specs.Numbers.{Paper, messagePaper}
@@ -42,7 +42,7 @@ use Rattle.message.specs.declared.read.Reading.the-variants as reading
 use Rattle.message.specs.declared.read.FrameReading.the-variants as frame
 use Rattle.lists.proofs.Tests.{both}
 use Rattle.message.proofs.Forms.{form-promise}
-use Rattle.message.proofs.Written.{data-size}
+use Rattle.message.proofs.Written.{data-size, form-refuses}
 use Rattle.message.proofs.Readings.{frame-some}
 
 -- what is said in a row, and data that say it
@@ -55,20 +55,16 @@ record Sayable (profile : Profile) (dir : Direction) (zone command : ℕ) (c : C
   load : saidData profile command c ≡ body
 
 module _ (profile : Profile) (dir : Direction) (zone command : ℕ) where
-  abbrev more : Content → Row → List Rule
-  more c row = wrongLength dir row (content.sizeOf c) ∷ rule 4 (not (content.isForm dir row c)) ∷ []
-
   data-in : (row : Row) (c : Content) → rowOf profile command ≡ found.Row row → saidData profile command c ≡ content.encodedData (content.encodedOf row c)
   data-in row c e = ap (λ (f : Found). saidIn f c) e
 
   -- what is said has data that are judged legal, and say it
   say-judge : (c : Content) → refuses (saidRules profile dir zone command c) ≡ false → Sayable profile dir zone command c (saidData profile command c)
   say-judge c e =
-      let p = pass-row profile zone command (more c) e in
-      let long = pass-first (wrongLength dir (p .row) (content.sizeOf c)) (rule 4 (not (content.isForm dir (p .row) c)) ∷ []) (p .rest) in
-      let form = pass-first (rule 4 (not (content.isForm dir (p .row) c))) [] (long .1) in
+      let p = pass-row profile zone command (formRules dir c) e in
+      let form = or-false (not (hasLength dir (p .row) (content.sizeOf c))) (not (content.isForm dir (p .row) c)) (sym (form-refuses dir (p .row) c) ∙ p .rest) .1 in
       let there = p .lies .there in
-      let w = form-promise .written profile command (p .row) dir c there (not-false _ (form .0)) in
+      let w = form-promise .written profile command (p .row) dir c there (not-false _ form) in
       let same = data-in (p .row) c there in
       let body = saidData profile command c in
       let (fits, value) = both (hasLength dir (p .row) (length body)) (hasValue dir (p .row) body) (rw same (w .0)) in
@@ -96,7 +92,7 @@ module _ (profile : Profile) (dir : Direction) (zone command : ℕ) where
           row = p .row;
           there = there;
           judges = e;
-          says = lies-refuses profile zone command (p .row) (p .lies) (more c) ∙ rw (long, form);
+          says = lies-refuses profile zone command (p .row) (p .lies) (formRules dir c) ∙ form-refuses dir (p .row) c ∙ rw (long, form);
           means = refl;
           load = data-in (p .row) c there ∙ r .1;
         },

@@ -20,10 +20,10 @@ use Rattle.refusals.proofs.Ruled.{refuses, firstNumber, ruled-append, was-accep
 use Rattle.row.specs.declared.profile.Profile.{Profile}
 use Rattle.row.specs.declared.table.Row.{Row}
 use Rattle.row.specs.declared.table.Found.{Found}
-use Rattle.judging.specs.Judge.{hasOneByte, hasLength, wrongLength, judgeRules, rowJudged}
+use Rattle.judging.specs.Judge.{hasOneByte, hasLength, valueRefusal, judgeRules, rowJudged}
 use Rattle.message.specs.Content.{encodedOf, encodedData, sizeOf, isForm}
 use Rattle.message.specs.Message.{isDenial, wrongCode, readRules, readOf}
-use Rattle.message.specs.Write.{saidRules, saidIn, saidData}
+use Rattle.message.specs.Write.{formRules, saidRules, saidIn, saidData}
 use Rattle.message.specs.declared.content.Content.{Content}
 use Rattle.message.specs.declared.content.Encoded.{Encoded}
 use Rattle.message.specs.declared.content.Encoded.the-variants.{One, Two, NoCode}
@@ -31,6 +31,7 @@ use Rattle.judging.specs.declared.judge.Judged.the-variants as judged
 use Rattle.message.specs.declared.read.Message.{Message}
 use Rattle.message.specs.declared.read.Reading.the-variants as reading
 use Rattle.message.proofs.Trip.{passed-message}
+use Rattle.message.proofs.Written.{formJudged, form-goes}
 use Rattle.judging.proofs.Judges.{Lies, lies-goes, judged-lies, row-refused, judge-passes}
 
 -- rules that refuse, or pass, before the rest
@@ -61,9 +62,6 @@ data-short NoCode = omega arith
 
 -- what a command or a status says, judged zone and row first
 module _ (profile : Profile) (dir : Direction) (buf : List ℕ) (at zone command : ℕ) (content : Content) (bytes : List ℕ) where
-  abbrev more : Row → List Rule
-  more row = wrongLength dir row (sizeOf content) ∷ rule 4 (not (isForm dir row content)) ∷ []
-
   abbrev said-rules : List Rule
   said-rules = saidRules profile dir zone command content
 
@@ -74,16 +72,17 @@ module _ (profile : Profile) (dir : Direction) (buf : List ℕ) (at zone command
       → (writeAnswered said-rules buf at bytes ≡ written.Refused n) × (writeLeft said-rules buf at bytes ≡ buf)
   unfolding writeAnswered writeLeft
   said-refused n e = (
-    ruled-append said-rules room written.Refused _ ∙ row-refused profile zone command n e more written.Refused _,
-    ruled-append said-rules room (λ m. buf) _ ∙ row-refused profile zone command n e more (λ m. buf) _,
+    ruled-append said-rules room written.Refused _ ∙ row-refused profile zone command n e (formRules dir content) written.Refused _,
+    ruled-append said-rules room (λ m. buf) _ ∙ row-refused profile zone command n e (formRules dir content) (λ m. buf) _,
   )
 
+  -- then by its length and its form
   pub said-legal : (row : Row) → Lies profile zone command row
-      → (writeAnswered said-rules buf at bytes ≡ writeAnswered (more row) buf at bytes) × (writeLeft said-rules buf at bytes ≡ writeLeft (more row) buf at bytes)
+      → (writeAnswered said-rules buf at bytes ≡ formJudged dir row content written.Refused (writeAnswered [] buf at bytes)) × (writeLeft said-rules buf at bytes ≡ formJudged dir row content (λ n. buf) (writeLeft [] buf at bytes))
   unfolding writeAnswered writeLeft
   said-legal row l = (
-    ruled-append said-rules room written.Refused _ ∙ lies-goes profile zone command row l more written.Refused _ ∙ sym (ruled-append (more row) room written.Refused _),
-    ruled-append said-rules room (λ m. buf) _ ∙ lies-goes profile zone command row l more (λ m. buf) _ ∙ sym (ruled-append (more row) room (λ m. buf) _),
+    ruled-append said-rules room written.Refused _ ∙ lies-goes profile zone command row l (formRules dir content) written.Refused _ ∙ form-goes dir row content written.Refused _,
+    ruled-append said-rules room (λ m. buf) _ ∙ lies-goes profile zone command row l (formRules dir content) (λ m. buf) _ ∙ form-goes dir row content (λ m. buf) _,
   )
 
 -- fields and data that are read first
@@ -155,7 +154,7 @@ module _ (profile : Profile) (dir : Direction) (buf : List ℕ) (at zone command
   said-length wrong = let w = said-legal profile dir buf at zone command content message row lies in (w .0 ∙ rw wrong, w .1 ∙ rw wrong)
 
   module _ (long : hasLength dir row (sizeOf content) ≡ true) where
-    pub said-form : isForm dir row content ≡ false → (writeAnswered checks buf at message ≡ written.Refused 4) × (writeLeft checks buf at message ≡ buf)
+    pub said-form : isForm dir row content ≡ false → (writeAnswered checks buf at message ≡ written.Refused (valueRefusal dir row (encodedData (encodedOf row content)))) × (writeLeft checks buf at message ≡ buf)
     unfolding writeAnswered writeLeft
     said-form wrong = let w = said-legal profile dir buf at zone command content message row lies in (w .0 ∙ rw (long, wrong), w .1 ∙ rw (long, wrong))
 

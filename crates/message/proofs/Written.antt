@@ -1,6 +1,6 @@
 -- A form of the row has legal data, and they say it.
 use mathlib.Core.Path.{_≡_, refl, ap, _∙_}
-use mathlib.Core.Bool.{Bool, true, false, cond}
+use mathlib.Core.Bool.{Bool, true, false, cond, not, _||_, and-false}
 use Prim.Native.Nat.{ℕ, _≤_}
 use native.Mathlib.Omega.{arith}
 use borrow.Author.Tests.{eqb-true}
@@ -12,8 +12,12 @@ use Rattle.frame.proofs.Cases.{cases}
 use Rattle.row.specs.declared.signed.Coded.{Coded}
 use Rattle.row.specs.declared.signed.Coded.the-variants as coded
 use Rattle.row.specs.declared.table.Row.{Row}
-use Rattle.judging.specs.Judge.{isWord, hasLength, hasValue, hasData}
+use Rattle.judging.specs.Judge.{isWord, hasLength, hasValue, hasData, valueRefusal}
+use Rattle.judging.proofs.Judges.{value-goes, value-refuses}
+use Rattle.refusals.specs.Rule.{ruled}
+use Rattle.refusals.proofs.Ruled.{refuses}
 use Rattle.message.specs.Content.{wordOf, isLevellerOff, numberIn, valueContent, byteContent, contentOf, encodedOf, encodedCode, encodedData, sizeOf, formNumber, isForm}
+use Rattle.message.specs.Write.{formRules}
 use Rattle.message.specs.declared.content.Content.{Content}
 use Rattle.message.specs.declared.content.Content.the-variants.{Request, Up, Down, On, Off, Toggle, LevellerOff, Number, Input}
 use Rattle.lists.proofs.Tests.{both}
@@ -109,3 +113,21 @@ module _ (dir : Direction) (row : Row) where
       let (legal, same) = both (hasData dir row body) (eqb (formNumber (says content)) (formNumber content)) e in
       let long = both (hasLength dir row (length body)) (hasValue dir row body) legal .0 in
       (legal, data-size content long, same-form content long (eqb-true _ _ same))
+
+  -- data of a value that the row lacks are no form of it
+  pub no-form : (content : Content) → hasValue dir row (encodedData (encodedOf row content)) ≡ false → not (isForm dir row content) ≡ true
+  unfolding isForm
+  no-form content wrong = rw (wrong, and-false (hasLength dir row (length (encodedData (encodedOf row content)))))
+
+  -- what is said goes by its length and its form
+  abbrev pub formJudged : Content → {A : Type 0} → (ℕ → A) → A → A
+  formJudged content refuse accepted =
+      cond (not (hasLength dir row (sizeOf content))) (refuse 3)
+      (cond (not (isForm dir row content)) (refuse (valueRefusal dir row (encodedData (encodedOf row content)))) accepted)
+
+  pub form-goes : (content : Content) {A : Type 0} (refuse : ℕ → A) (accepted : A) → ruled (formRules dir content row) refuse accepted ≡ formJudged content refuse accepted
+  form-goes content refuse accepted =
+      value-goes row (sizeOf content) (encodedData (encodedOf row content)) (not (isForm dir row content)) dir (no-form content) refuse accepted
+
+  pub form-refuses : (content : Content) → refuses (formRules dir content row) ≡ not (hasLength dir row (sizeOf content)) || not (isForm dir row content)
+  form-refuses content = value-refuses row (sizeOf content) (encodedData (encodedOf row content)) (not (isForm dir row content)) dir (no-form content)

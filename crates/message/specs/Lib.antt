@@ -9,4 +9,5 @@ pub mod MessageRefusalPromise
 pub mod FormPromise
 pub mod MessagePromise
 pub mod BenchPromise
+pub mod StepTablePromise
 pub mod Computed

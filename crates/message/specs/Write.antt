@@ -9,20 +9,24 @@ use Rattle.frame.specs.declared.direction.Direction.{Direction}
 use Rattle.frame.specs.declared.direction.Direction.the-variants.{Command, Answer}
 use Rattle.row.specs.Table.{rowOf}
 use Rattle.row.specs.declared.profile.Profile.{Profile}
+use Rattle.row.specs.declared.table.Row.{Row}
 use Rattle.row.specs.declared.table.Found.{Found}
 use Rattle.row.specs.declared.table.Found.the-variants as found
-use Rattle.judging.specs.Judge.{wrongLength, rowRules}
+use Rattle.judging.specs.Judge.{wrongLength, valueRules, rowRules}
 use Rattle.message.specs.Content.{encodedOf, encodedData, sizeOf, isForm}
 use Rattle.message.specs.Message.{isDenial}
 use Rattle.message.specs.declared.content.Content.{Content}
 use Rattle.message.specs.declared.read.Message.{Message}
 use Rattle.message.specs.declared.read.Message.the-variants as message
 
--- the rules of what a command or a status says: those of its data; 4 also where the row has no such form in this direction, as
--- `up` in A 37, or a number has no code
+-- what a command or a status says is judged by the data that it would write: 13 where they are a step or request that the row lacks;
+-- 4 for every other form that the row lacks, also where it has the data and says something else by them, as A 37, whose F1 is `on`,
+-- lacks `up`, and for a number without a code
+abbrev pub formRules : Direction → Content → Row → List Rule
+formRules dir content row = wrongLength dir row (sizeOf content) ∷ valueRules dir row (encodedData (encodedOf row content)) (not (isForm dir row content))
+
 abbrev pub saidRules : Profile → Direction → ℕ → ℕ → Content → List Rule
-saidRules profile dir zone command content =
-    rowRules profile zone command (λ row. wrongLength dir row (sizeOf content) ∷ rule 4 (not (isForm dir row content)) ∷ [])
+saidRules profile dir zone command content = rowRules profile zone command (formRules dir content)
 
 -- 5: "answer code not 00 or 82 to 86; 00 in a message to be written as denied"
 abbrev pub notDenied : ℕ → Rule

@@ -1,14 +1,15 @@
 use frame::direction::Direction;
 use judging::judge::data_fit;
 use judging::judge::is_word;
+use judging::judge::value_refusal;
 use row::signed::Coded;
 use row::table::Row;
 ghost use mathlib.Core.Path.{_≡_};
 ghost use mathlib.Core.Bool.{cond};
 ghost use Prim.Native.Nat.{_<_};
 ghost use lib.ListN.{length};
-ghost use Rattle.judging.specs.Judge.{isWord};
-ghost use Rattle.message.specs.Content.{wordOf, isLevellerOff, valueContent, byteContent, contentOf, encodedCode, numberCode, encodedOf, sizeOf, formNumber, isSaid, isForm};
+ghost use Rattle.judging.specs.Judge.{isWord, valueRefusal};
+ghost use Rattle.message.specs.Content.{wordOf, isLevellerOff, valueContent, byteContent, contentOf, encodedCode, numberCode, encodedOf, encodedData, sizeOf, formNumber, isSaid, isForm};
 
 // What the data of a message say, in the words of document 01.
 pub enum Content {
@@ -188,6 +189,19 @@ pub(crate) fn is_form(direction: Direction, row: Row, content: Content) -> bool
         Encoded::One(byte) => is_said(direction, row, &[byte], content),
         Encoded::Two(input, state) => is_said(direction, row, &[input, state], content),
         Encoded::NoCode => false,
+    }
+}
+
+// The number of a form that a row lacks in a direction: 13 where its data are a step or request that the row
+// lacks, else 4.
+pub(crate) fn form_refusal(direction: Direction, row: Row, content: Content) -> u8
+    ensures { λ r. ⌜ r ≡ valueRefusal direction row (encodedData (encodedOf row content)) ⌝ }
+{
+    let encoded = encode(row, content);
+    match encoded {
+        Encoded::One(byte) => value_refusal(direction, row, &[byte]),
+        Encoded::Two(input, state) => value_refusal(direction, row, &[input, state]),
+        Encoded::NoCode => value_refusal(direction, row, &[]),
     }
 }
 

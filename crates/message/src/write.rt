@@ -1,6 +1,7 @@
 use crate::content::Content;
 use crate::content::Encoded;
 use crate::content::encode;
+use crate::content::form_refusal;
 use crate::content::is_form;
 use crate::content::size_of;
 use crate::read::Message;
@@ -24,9 +25,10 @@ ghost use Rattle.message.specs.Write.{saidRules, saidData, notDenied, wr
 ghost use Rattle.lent.specs.Written.{writeAnswered, writeLeft};
 ghost use Rattle.message.specs.Computed.{judgedWritten, readingWritten};
 
-// Writes a message into the rest of the buffer from a place: the checks of reading, 4 also for a form
-// that the row lacks, then 9. Denied: only 5, then 3, then 9; the profile is not asked. `body` are the
-// data of a denied message; the other messages have theirs in their content.
+// Writes a message into the rest of the buffer from a place: the checks of reading the data that it would
+// write, 4 also where the row says something else by them or a number has no code, then 9. Denied: only 5,
+// then 3, then 9; the profile is not asked. `body` are the data of a denied message; the other messages have
+// theirs in their content.
 pub fn write_message(
     profile: Profile,
     buf: &mut [u8],
@@ -137,7 +139,7 @@ fn write_said(
         return Written::Refused(3);
     }
     if !is_form(direction, row, content) {
-        return Written::Refused(4);
+        return Written::Refused(form_refusal(direction, row, content));
     }
     write_encoded(direction, buf, at, zone, command, encode(row, content))
 }

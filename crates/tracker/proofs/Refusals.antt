@@ -34,7 +34,7 @@ rules-numbered profile zone command ac body = go (isDenial ac)
     go true = ((omega arith, omega arith), ((omega arith, omega arith), tt))
     go false = (
       (omega arith, omega arith),
-      judge-numbers OneToFive (omega arith, omega arith) (omega arith, omega arith) (omega arith, omega arith) (omega arith, omega arith) profile Answer zone command body,
+      judge-numbers OneToFive (omega arith, omega arith) (omega arith, omega arith) (omega arith, omega arith) profile Answer ((omega arith, omega arith), tt) zone command body,
     )
 
 -- a refused answer, whatever the first byte of its data is

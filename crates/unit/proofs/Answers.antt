@@ -57,12 +57,14 @@ denied-reads profile zone command n =
     Denies : ℕ → Type 0
     Denies ac = readOf profile Answer zone command ac [] ≡ reading.Message (message.Denied (record { zone = zone; command = command; answer = ac }))
 
--- a command is refused with one of the four numbers
-four : (profile : Profile) (zone command : ℕ) (body : List ℕ) (n : ℕ) → readOf profile Command zone command 0 body ≡ reading.Refused n
-    → (n ≡ 1) ⊎ (n ≡ 2) ⊎ (n ≡ 3) ⊎ (n ≡ 4)
-four profile zone command body n e =
-    first-number (λ k. (k ≡ 1) ⊎ (k ≡ 2) ⊎ (k ≡ 3) ⊎ (k ≡ 4)) (judgeRules profile Command zone command body)
-    (judge-numbers (λ k. (k ≡ 1) ⊎ (k ≡ 2) ⊎ (k ≡ 3) ⊎ (k ≡ 4)) (inl refl) (inr (inl refl)) (inr (inr (inl refl))) (inr (inr (inr refl))) profile Command zone command body) n
+-- a command is refused with one of these numbers
+abbrev OfCommand : ℕ → Type 0
+OfCommand k = (k ≡ 1) ⊎ (k ≡ 2) ⊎ (k ≡ 3) ⊎ (k ≡ 4) ⊎ (k ≡ 13)
+
+of-command : (profile : Profile) (zone command : ℕ) (body : List ℕ) (n : ℕ) → readOf profile Command zone command 0 body ≡ reading.Refused n → OfCommand n
+of-command profile zone command body n e =
+    first-number OfCommand (judgeRules profile Command zone command body)
+    (judge-numbers OfCommand (inl refl) (inr (inl refl)) (inr (inr (inl refl))) profile Command (inr (inr (inr (inr refl))), (inr (inr (inr (inl refl))), tt)) zone command body) n
     (order-promise profile Command zone command 0 body .applies n e)
 
 together : (s t : Bool) → s ≡ true → t ≡ true → s && t ≡ true
@@ -158,7 +160,7 @@ module _ (profile : Profile) (s : Settings) (bytes : List ℕ) where
       let z = zoneIn bytes in
       let k = commandIn bytes in
       record {
-        number = four profile z k (dataIn Command bytes) n e;
+        number = of-command profile z k (dataIn Command bytes) n e;
         answer = ap (λ (d : Done). d .answer) (done-refused profile s bytes n e);
         denial = ap (λ (d : Done). frameRead profile Answer (d .answer)) (done-refused profile s bytes n e)
             ∙ answer-reads profile z k (refusalCode n) [] ∙ ap fromReading (denied-reads profile z k n);

@@ -94,7 +94,8 @@ acted row s said =
     let set = put s x (valueAfter row (said .content) (s x)) in
     record { settings = set; answer = frameOf Answer (said .zone) (said .command) 0x00 (shown x (set x)) }
 
--- "A refused frame changes nothing and is answered with Ac 82, 83, 86, 84 for 1, 2, 3, 4, its zone and command, Dl 0."
+-- "A refused frame changes nothing and is answered with Ac 82, 83, 86, 84 for 1, 2, 3, 4, its zone and command, Dl 0."; document 02,
+-- C-11: "The unit answers Ac 84 for both", 4 and 13; a command gets no other number (`ToldDenial`)
 abbrev pub refusalCode : ℕ → ℕ
 refusalCode n = cond (eqb n 1) 0x82 (cond (eqb n 2) 0x83 (cond (eqb n 3) 0x86 0x84))
 

@@ -42,9 +42,9 @@ pub record ToldStatus (profile : Profile) (c : Said) (d : Done) : Type 0 where
         content = contentOf Answer row (shown cell (d .settings cell));
       }))
 
--- the answer to a refused frame: the number is one of the four, and the library reads the answer as denied
+-- the answer to a refused frame: the number is one that a command can get, and the library reads the answer as denied
 pub record ToldDenial (profile : Profile) (bytes : List ℕ) (n : ℕ) (d : Done) : Type 0 where
-  pub number : (n ≡ 1) ⊎ (n ≡ 2) ⊎ (n ≡ 3) ⊎ (n ≡ 4)
+  pub number : (n ≡ 1) ⊎ (n ≡ 2) ⊎ (n ≡ 3) ⊎ (n ≡ 4) ⊎ (n ≡ 13)
   pub answer : d .answer ≡ frameOf Answer (zoneIn bytes) (commandIn bytes) (refusalCode n) []
   pub denial : frameRead profile Answer (d .answer)
       ≡ frame.Message (message.Denied (record { zone = zoneIn bytes; command = commandIn bytes; answer = refusalCode n }))

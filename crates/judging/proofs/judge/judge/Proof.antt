@@ -32,11 +32,14 @@ value-fits-requires c κs =
     let g = c .before .before .before .before .before .before .before .args in
     length-some (g .direction) (c .before .before .before .judged .given .0 .0) (length (g .body .now)) (sym (c .before .length-fits .ensures) ∙ not-false _ (c .if1 .left))
 
+value-refusal-requires : tie.Need-value-refusal-requires
+value-refusal-requires c κs = search needs
+
 returns-3 : tie.Need-returns-3
 returns-3 c =
-    let told = c .before .before .before .before .before .judged .given in
-    sym (judge-legal _ _ _ _ _ (told .0 .0) (sym (c .before .before .before .before .before .before .before .judge-row .ensures) ∙ told .1)
-    ∙ rw (← c .before .before .before .length-fits .ensures, c .before .before .if1 .left, ← c .before .value-fits .ensures, c .if2 .taken))
+    let told = c .before .before .before .before .before .before .judged .given in
+    sym (judge-legal _ _ _ _ _ (told .0 .0) (sym (c .before .before .before .before .before .before .before .before .judge-row .ensures) ∙ told .1)
+    ∙ rw (← c .before .before .before .before .length-fits .ensures, c .before .before .before .if1 .left, ← c .before .before .value-fits .ensures, c .before .if2 .taken, ← c .value-refusal .ensures))
 
 returns-4 : tie.Need-returns-4
 returns-4 c =
@@ -55,5 +58,6 @@ judge-spec =
     length-fits-requires
     returns-2
     value-fits-requires
+    value-refusal-requires
     returns-3
     returns-4)

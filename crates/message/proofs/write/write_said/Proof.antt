@@ -48,14 +48,17 @@ returns-2 c =
 is-form-requires : tie.Need-is-form-requires
 is-form-requires c κs = search needs
 
+form-refusal-requires : tie.Need-form-refusal-requires
+form-refusal-requires c κs = search needs
+
 returns-3 : tie.Need-returns-3
 returns-3 c =
-    let g = c .before .before .before .before .before .before .before .before .before .before .args in
-    let told = c .before .before .before .before .before .before .judged .given in
-    let legal = sym (c .before .before .before .before .before .before .before .before .judge-row .ensures) ∙ told .1 in
-    let size = ap (λ (n : ℕ). hasLength (g .direction) (told .0 .0) n) (sym (c .before .before .before .before .size-of .ensures)) ∙ sym (c .before .before .before .length-fits .ensures) in
-    let w = said-form (g .profile) (g .direction) (g .buf .now) (g .at) (g .zone) (g .command) (g .content) (told .0 .0) legal (size ∙ not-false _ (c .before .before .if1 .left)) (sym (c .before .is-form .ensures) ∙ not-true _ (c .if2 .taken)) in
-    (sym (w .0), sym (w .1))
+    let g = c .before .before .before .before .before .before .before .before .before .before .before .args in
+    let told = c .before .before .before .before .before .before .before .judged .given in
+    let legal = sym (c .before .before .before .before .before .before .before .before .before .judge-row .ensures) ∙ told .1 in
+    let size = ap (λ (n : ℕ). hasLength (g .direction) (told .0 .0) n) (sym (c .before .before .before .before .before .size-of .ensures)) ∙ sym (c .before .before .before .before .length-fits .ensures) in
+    let w = said-form (g .profile) (g .direction) (g .buf .now) (g .at) (g .zone) (g .command) (g .content) (told .0 .0) legal (size ∙ not-false _ (c .before .before .before .if1 .left)) (sym (c .before .before .is-form .ensures) ∙ not-true _ (c .before .if2 .taken)) in
+    (rw (c .form-refusal .ensures) (sym (w .0)), sym (w .1))
 
 encode-requires : tie.Need-encode-requires
 encode-requires c κs = search needs
@@ -90,6 +93,7 @@ write-said-spec =
     length-fits-requires
     returns-2
     is-form-requires
+    form-refusal-requires
     returns-3
     encode-requires
     write-encoded-requires
