@@ -57,4 +57,28 @@ mod tests {
         assert_eq!(make(7), make(7));
         assert_ne!(make(7), make(8));
     }
+
+    #[test]
+    fn enough_cases_bring_every_kind() {
+        let (_, missing) = generate(7, ENOUGH, io::sink()).unwrap();
+        assert!(missing.is_empty());
+    }
+
+    #[test]
+    fn steps_that_a_row_lacks_are_read_sent_and_written() {
+        let is_13 = |line: &String| {
+            let mut printed = String::new();
+            operations::run(line.as_bytes(), &mut printed, &mut Tally::default());
+            printed.starts_with("refused 13")
+        };
+        let mut cases = Cases::new(7);
+        let lines: Vec<String> = (0..ENOUGH).flat_map(|index| cases.next(index)).collect();
+        for word in ["read", "frame", "send", "write"] {
+            for profile in ["41", "53"] {
+                let start = format!("{word} {profile} ");
+                let mut started = lines.iter().filter(|line| line.starts_with(&start));
+                assert!(started.any(is_13), "{start}");
+            }
+        }
+    }
 }

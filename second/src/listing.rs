@@ -179,5 +179,7 @@ total 0 frame 0 broken 0 noise 0 pending 0
         assert_eq!(line(b"SR", "2101370001A00D"), "0 7 frame 1 37 00 160");
         assert_eq!(line(b"AR", "21FF998301000D"), "0 7 denied 255 99 83 -");
         assert_eq!(line(b"AR", "2101388101020D"), "0 7 unread - - - 5");
+        assert_eq!(line(b"SC", "21013701F10D"), "0 6 unread - - - 13");
+        assert_eq!(line(b"AR", "2101380001F10D"), "0 7 unread - - - 4");
     }
 }

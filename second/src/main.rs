@@ -1,4 +1,4 @@
-//! The second implementation of document 01, run against the first.
+//! The second implementation, run against the first.
 
 mod cases;
 mod exhaustive;

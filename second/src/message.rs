@@ -159,7 +159,7 @@ mod tests {
             (S, Command, "21010D010D0D", number(13)),
             (S, Command, "21010D01630D", number(99)),
             (S, Command, "21010D01640D", Refused(4)),
-            (S, Command, "21013701F10D", Refused(4)),
+            (S, Command, "21013701F10D", Refused(13)),
             (S, Answer, "21010E0001020D", Refused(4)),
             (S, Answer, "21010F000206010D", Is::Says(input_6_on)),
             (A, Answer, "21079983000D", Denied),
@@ -208,6 +208,9 @@ mod tests {
         assert_eq!(read(A, Command, frame(2, 0x10, 0, &[])), Some(1));
         assert_eq!(read(A, Answer, frame(9, 0x99, 0x81, &[])), Some(5));
         assert_eq!(read(A, Command, frame(1, 0x38, 0x81, &[0])), None);
+        assert_eq!(read(A, Command, frame(2, 0x99, 0, &[0xF1])), Some(2));
+        assert_eq!(read(A, Command, frame(2, 0x10, 0, &[0xF1])), Some(1));
+        assert_eq!(read(A, Command, frame(1, 0x38, 0, &[0xF1; 2])), Some(3));
         assert_eq!(read(S, Command, frame(1, 0x0F, 0, &[1])), Some(4));
         assert_eq!(read(S, Answer, frame(1, 0x0F, 0, &[0xF0])), Some(3));
         assert_eq!(read(S, Answer, frame(1, 0x0F, 0, &[4, 1])), Some(4));
@@ -215,24 +218,73 @@ mod tests {
     }
 
     #[test]
-    fn a_message_that_its_row_cannot_say_is_4() {
-        let command = |command, says| Message::Command {
-            zone: 1,
-            command,
-            says,
+    fn a_step_that_the_row_lacks_is_13_and_other_data_are_4() {
+        let read = |profile, direction, command, data| {
+            let frame = Frame {
+                zone: 1,
+                command,
+                answer_code: 0x00,
+                data,
+            };
+            read(profile, direction, frame).err()
         };
-        let status = |command, says| Message::Status {
-            zone: 1,
-            command,
-            says,
+        assert_eq!(read(A, Command, 0x38, &[0xF1]), Some(13));
+        assert_eq!(read(A, Command, 0x38, &[0xF2]), Some(13));
+        assert_eq!(read(A, Command, 0x38, &[0xF0]), None);
+        assert_eq!(read(A, Command, 0x38, &[0xF3]), Some(4));
+        assert_eq!(read(A, Command, 0x38, &[0xFF]), Some(4));
+        assert_eq!(read(A, Answer, 0x38, &[0xF1]), Some(4));
+        assert_eq!(read(S, Command, 0x0F, &[0xF1]), Some(13));
+        assert_eq!(read(S, Command, 0x0F, &[0xEF]), Some(4));
+        assert_eq!(read(S, Command, 0x0F, &[0xF1, 0x01]), Some(4));
+        assert_eq!(read(S, Command, 0x0F, &[0x01, 0xF1]), Some(4));
+        assert_eq!(read(S, Command, 0x0F, &[0xF1, 0xF1]), Some(4));
+    }
+
+    #[test]
+    fn a_message_that_its_row_cannot_say_is_judged_by_its_data() {
+        let command = |profile, command, says| {
+            let message = Message::Command {
+                zone: 1,
+                command,
+                says,
+            };
+            bytes(profile, message)
         };
-        assert_eq!(bytes(A, command(0x37, Says::Up)), Err(4));
-        assert_eq!(bytes(A, command(0x38, Says::On)), Err(4));
-        assert_eq!(bytes(A, command(0x39, Says::Number(255))), Err(4));
-        assert_eq!(bytes(A, command(0x3A, Says::Number(-112))), Err(4));
-        assert_eq!(bytes(S, command(0x0E, Says::Number(2))), Err(4));
-        assert_eq!(bytes(A, status(0x37, Says::On)), Err(4));
-        assert_eq!(bytes(S, status(0x0F, Says::Number(300))), Err(3));
-        assert_eq!(bytes(S, command(0x0F, Says::Number(300))), Err(4));
+        let status = |profile, command, says| {
+            let message = Message::Status {
+                zone: 1,
+                command,
+                says,
+            };
+            bytes(profile, message)
+        };
+        for says in [Says::Up, Says::On, Says::Down, Says::Off] {
+            assert_eq!(command(A, 0x38, says), Err(13));
+            assert_eq!(command(S, 0x0F, says), Err(13));
+            assert_eq!(status(A, 0x38, says), Err(4));
+            assert_eq!(status(A, 0x37, says), Err(4));
+            assert_eq!(status(A, 0x39, says), Err(4));
+        }
+        assert_eq!(command(A, 0x38, Says::Number(241)), Err(13));
+        assert_eq!(command(S, 0x3B, Says::Number(-113)), Err(13));
+        // The row has the byte and says another thing by it.
+        assert_eq!(command(A, 0x37, Says::Up), Err(4));
+        assert_eq!(command(A, 0x39, Says::On), Err(4));
+        assert_eq!(command(A, 0x39, Says::Number(241)), Err(4));
+        assert_eq!(command(A, 0x38, Says::Number(240)), Err(4));
+        assert_eq!(command(A, 0x3A, Says::Number(-112)), Err(4));
+        assert_eq!(command(A, 0x39, Says::Number(255)), Err(4));
+        assert_eq!(command(S, 0x0E, Says::Number(2)), Err(4));
+        // The row lacks the byte, or the number has none.
+        assert_eq!(command(A, 0x38, Says::LevellerOff), Err(4));
+        assert_eq!(command(S, 0x0F, Says::Number(300)), Err(4));
+        assert_eq!(status(S, 0x0F, Says::Number(300)), Err(3));
+        let input = Says::Input {
+            input: 0xF1,
+            on: true,
+        };
+        assert_eq!(command(S, 0x0F, input), Err(4));
+        assert_eq!(command(A, 0x38, input), Err(3));
     }
 }

@@ -310,6 +310,31 @@ mod tests {
     }
 
     #[test]
+    fn steps_that_a_row_lacks() {
+        assert_eq!(print("frame 53 43 21013701F10D"), "refused 13");
+        assert_eq!(print("read 41 43 01 38 00 F1"), "refused 13");
+        assert_eq!(print("read 41 52 01 38 00 F1"), "refused 4");
+        // 13 comes before 9.
+        assert_eq!(print("send 41 43 02 03 01 38 00 F1"), "refused 13 : AAAA");
+        assert_eq!(
+            print("write 53 02 03 43 01 3B 00 07 FF8F 00 -"),
+            "refused 13 : AAAA"
+        );
+        assert_eq!(
+            print("write 53 02 03 53 01 3B 00 07 FF8F 00 -"),
+            "refused 4 : AAAA"
+        );
+    }
+
+    #[test]
+    fn counts_of_refusals_end_with_13() {
+        let last = |line| print(line).lines().last().unwrap().to_string();
+        let counts = "accepted 10 refused 1:0 2:0 3:0 4:65526 5:0 13:0";
+        assert_eq!(last("pairs 43"), counts);
+        assert_eq!(last("pairs 52"), counts);
+    }
+
+    #[test]
     fn lines_that_are_no_operation() {
         for line in [
             "",

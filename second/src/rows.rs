@@ -40,6 +40,9 @@ impl Profile {
 /// The most zones that a profile has.
 pub const ZONES: usize = 3;
 
+/// The codes that request and step; a row may lack them.
+pub const REQUEST_AND_STEPS: [u8; 3] = [0xF0, 0xF1, 0xF2];
+
 /// The inputs of S 0F.
 pub const INPUTS: [u8; 5] = [0x01, 0x02, 0x03, 0x05, 0x06];
 
@@ -201,13 +204,15 @@ impl Row {
         }
     }
 
-    /// What the data say, or 3 or 4.
+    /// What the data say, or 3, 4 or 13.
     pub fn says(&self, direction: Direction, data: &[u8]) -> Result<Says, u8> {
         if !self.has_length(direction, data.len()) {
             return Err(3);
         }
         match *data {
-            [code] => self.code_says(direction, code).ok_or(4),
+            [code] => self
+                .code_says(direction, code)
+                .ok_or(lacking(direction, code)),
             [input, state] if INPUTS.contains(&input) && state <= 0x01 => Ok(Says::Input {
                 input,
                 on: state == 0x01,
@@ -236,7 +241,7 @@ impl Row {
         })
     }
 
-    /// The data that say it, or 3 or 4 where the row cannot say it in that direction.
+    /// The data that say it, or 3, 4 or 13 where the row cannot say it in that direction.
     pub fn data(&self, direction: Direction, says: Says) -> Result<Vec<u8>, u8> {
         if !self.has_length(direction, says.length()) {
             return Err(3);
@@ -349,6 +354,14 @@ pub fn table() -> String {
     text
 }
 
+/// The refusal of one data byte that a row lacks.
+fn lacking(direction: Direction, code: u8) -> u8 {
+    match direction {
+        Direction::Command if REQUEST_AND_STEPS.contains(&code) => 13,
+        _ => 4,
+    }
+}
+
 /// First and last of each unbroken stretch of codes.
 fn stretches(has: impl Fn(u8) -> bool) -> Vec<(u8, u8)> {
     let mut found: Vec<(u8, u8)> = Vec::new();
@@ -417,6 +430,30 @@ mod tests {
             if row.mark == Mark::Sheet {
                 assert!((0..=255).all(|v| row.has_sheet_value(v) == row.has_answer(v)));
                 assert!(row.zones == Zones::All);
+            }
+        }
+    }
+
+    #[test]
+    fn f1_and_f2_are_13_in_commands_of_rows_without_them() {
+        let with_steps = [
+            (Profile::A, 0x37),
+            (Profile::A, 0x39),
+            (Profile::A, 0x3A),
+            (Profile::A, 0x45),
+            (Profile::A, 0x46),
+            (Profile::S, 0x0D),
+        ];
+        for row in &ROWS {
+            let lacked: Vec<u8> = (0..=255)
+                .filter(|&code| row.says(Direction::Command, &[code]) == Err(13))
+                .collect();
+            match with_steps.contains(&(row.profile, row.command)) {
+                true => assert_eq!(lacked, []),
+                false => assert_eq!(lacked, [0xF1, 0xF2]),
+            }
+            for code in 0..=255 {
+                assert_ne!(row.says(Direction::Answer, &[code]), Err(13));
             }
         }
     }

@@ -2,7 +2,7 @@
 
 use crate::frame::{Direction, Frame, DATA_LIMIT, END, OPENING};
 use crate::random::Random;
-use crate::rows::{Codes, Mark, Profile, Row, Says, INPUTS, ROWS};
+use crate::rows::{Codes, Mark, Profile, Row, Says, INPUTS, REQUEST_AND_STEPS, ROWS};
 use crate::sheet::Line;
 
 pub const PROFILES: [Profile; 2] = [Profile::A, Profile::S];
@@ -81,6 +81,18 @@ pub fn valid(random: &mut Random, profile: Profile, direction: Direction) -> Vec
     raw(direction, frame)
 }
 
+/// A frame that requests or steps, also in a row or direction that lacks it.
+fn step(random: &mut Random, profile: Profile, direction: Direction) -> Vec<u8> {
+    let row = *random.pick(&rows_of(profile));
+    let frame = Frame {
+        zone: zone(random, row),
+        command: row.command,
+        answer_code: 0x00,
+        data: &[*random.pick(&REQUEST_AND_STEPS)],
+    };
+    raw(direction, frame)
+}
+
 /// Bytes of which many are 0D or 21.
 pub fn mixed(random: &mut Random, count: usize) -> Vec<u8> {
     (0..count)
@@ -143,7 +155,7 @@ pub fn damage(random: &mut Random, bytes: &mut Vec<u8>) {
 
 /// A stretch of a capture: mostly a good frame, else one kind of trouble.
 fn stretch(random: &mut Random, profile: Profile, direction: Direction) -> Vec<u8> {
-    match random.below(18) {
+    match random.below(19) {
         0..=7 => valid(random, profile, direction),
         8 => {
             let count = random.below(5);
@@ -176,6 +188,7 @@ fn stretch(random: &mut Random, profile: Profile, direction: Direction) -> Vec<u
             bytes.truncate(random.between(1, bytes.len() - 1));
             bytes
         }
+        17 => step(random, profile, direction),
         _ => {
             let byte = *random.pick(&[OPENING, END, 0x00]);
             vec![byte; random.between(1, 60)]

@@ -136,6 +136,7 @@ mod tests {
         assert_eq!(a(&[bad; 40]), Err(fault(6, 12)));
         assert_eq!(a(&[line(1, 0x39, 0xFF)]), Ok(()));
         assert_eq!(a(&[line(1, 0x39, 0xF0)]), Err(fault(7, 0)));
+        assert_eq!(a(&[line(1, 0x38, 0xF1)]), Err(fault(7, 0)));
         let s = |lines: &[Line]| check(Profile::S, lines);
         assert_eq!(s(&[line(1, 0x0E, 0x02)]), Err(fault(7, 0)));
         assert_eq!(s(&[line(1, 0x5B, 0x01)]), Err(fault(7, 0)));

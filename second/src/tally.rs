@@ -32,7 +32,7 @@ impl Kind {
         for direction in [Direction::Command, Direction::Answer] {
             kinds.extend((0..ROWS.len()).map(|row| Kind::Row(row, direction)));
         }
-        kinds.extend((1..=12).map(Kind::Refusal));
+        kinds.extend((1..=13).map(Kind::Refusal));
         kinds.extend(SIGN_OFFS.map(Kind::SignOff));
         kinds.extend(words.iter().copied().map(Kind::Word));
         kinds

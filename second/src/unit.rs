@@ -136,6 +136,7 @@ fn denial(refusal: u8) -> u8 {
         1 => 0x82,
         2 => 0x83,
         3 => 0x86,
+        // 4 and 13.
         _ => 0x84,
     }
 }
@@ -234,6 +235,13 @@ mod tests {
         assert_eq!(answer(&mut a, "21019901000D"), "21019983000D");
         assert_eq!(answer(&mut a, "21013A000D"), "21013A86000D");
         assert_eq!(answer(&mut a, "21013A01800D"), "21013A84000D");
+        assert_eq!(answer(&mut a, "21013801020D"), "2101380001020D");
+        assert_eq!(answer(&mut a, "21013801F20D"), "21013884000D");
+        assert_eq!(answer(&mut a, "21013801F00D"), "2101380001020D");
+        let mut s = unit(Profile::S);
+        assert_eq!(answer(&mut s, "21013701F10D"), "21013784000D");
+        assert_eq!(answer(&mut s, "21010F01F10D"), "21010F84000D");
+        assert_eq!(answer(&mut s, "21010F0206F10D"), "21010F84000D");
         assert_eq!(answer(&mut a, "21013A01050021013A01F00D"), "21013A0001000D");
         assert_eq!(answer(&mut a, "21013A010521013A01F00D"), "21013A0001000D");
     }

@@ -2,7 +2,7 @@
 
 use super::Cases;
 use crate::frame::{Direction, Frame};
-use crate::rows::{Profile, Row, Says, ROWS};
+use crate::rows::{Profile, Row, Says, REQUEST_AND_STEPS, ROWS};
 use crate::samples;
 
 /// The fields of a message.
@@ -69,7 +69,7 @@ impl Cases {
     /// Data for a row: mostly its own, else near its limits or of other lengths.
     pub(super) fn data(&mut self, row: &Row, direction: Direction) -> Vec<u8> {
         let mut data = samples::data(&mut self.random, row, direction);
-        match self.random.below(20) {
+        match self.random.below(21) {
             0..=10 => data,
             11 | 12 => {
                 // The neighbour of a legal code.
@@ -85,8 +85,12 @@ impl Cases {
                 vec![*self.random.pick(&codes)]
             }
             15 => vec![self.random.below(8) as u8, self.random.below(3) as u8],
-            16 => vec![0xF0, self.random.below(2) as u8],
-            17 => self.random.bytes(1),
+            16 => {
+                let code = *self.random.pick(&REQUEST_AND_STEPS);
+                vec![code, *self.random.pick(&[0x00, 0x01, code])]
+            }
+            17 => vec![*self.random.pick(&REQUEST_AND_STEPS)],
+            18 => self.random.bytes(1),
             _ => {
                 let count = *self.random.pick(&[0, 0, 1, 2, 2, 3, 255, 256]);
                 samples::mixed(&mut self.random, count)
@@ -96,6 +100,27 @@ impl Cases {
 
     pub(super) fn message_case(&mut self) {
         let fields = self.fields();
+        self.message(&fields);
+    }
+
+    /// A request or a step in any row, sound unless the row lacks it.
+    pub(super) fn step_case(&mut self) {
+        let profile = self.profile();
+        let row = *self.random.pick(&samples::rows_of(profile));
+        let fields = Fields {
+            profile,
+            direction: Direction::Command,
+            row,
+            zone: samples::zone(&mut self.random, row),
+            command: row.command,
+            answer_code: 0x00,
+            data: vec![*self.random.pick(&REQUEST_AND_STEPS)],
+        };
+        self.message(&fields);
+    }
+
+    /// Reads and writes a message.
+    fn message(&mut self, fields: &Fields) {
         let p = self.letter(fields.profile.letter());
         let d = self.letter(fields.direction.letter());
         let (zone, command) = ([fields.zone], [fields.command]);
@@ -113,8 +138,8 @@ impl Cases {
             let arguments: [&[u8]; 7] = [&d, &length, &place, &zone, &command, &ac, data];
             self.add("raw", &arguments);
         }
-        self.write(&fields);
-        self.write(&fields);
+        self.write(fields);
+        self.write(fields);
     }
 
     /// `write` with what the row can say, or with anything else.
@@ -178,9 +203,11 @@ impl Cases {
             -11, -10, -1, 0, 1, 2, 3, 4, 5, 6, 7, 10, 11, 12, 13, 15, 16, 99, 100, 127, 128, 129,
             138, 160, 240, 241, 242, 255, 256, 257, 32767,
         ];
-        let number = match self.random.below(4) {
+        let number = match self.random.below(5) {
             0 => self.random.next() as i16,
             1 => row.number(self.random.byte()),
+            // A number whose code would request or step.
+            2 => row.number(*self.random.pick(&REQUEST_AND_STEPS)),
             _ => *self.random.pick(&ends),
         };
         let number = match form {

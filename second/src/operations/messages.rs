@@ -141,11 +141,15 @@ pub(super) fn row(p: u8, command: u8) -> Answer {
     })
 }
 
+/// The refusals that reading gives.
+const REFUSALS: [u8; 6] = [1, 2, 3, 4, 5, 13];
+
 /// How many messages were accepted, and how many got each refusal.
 #[derive(Default)]
 struct Counts {
     accepted: u32,
-    refused: [u32; 5],
+    /// By the refusal's number.
+    refused: [u32; 14],
 }
 
 impl Counts {
@@ -171,14 +175,14 @@ impl Counts {
             }
             // None is denied with answer code 00.
             Ok(Message::Denied { .. }) => {}
-            Err(number) => self.refused[usize::from(number) - 1] += 1,
+            Err(number) => self.refused[usize::from(number)] += 1,
         }
     }
 
     fn print(&self, text: &mut String) {
         let _ = write!(text, "accepted {} refused", self.accepted);
-        for (index, count) in self.refused.iter().enumerate() {
-            let _ = write!(text, " {}:{count}", index + 1);
+        for number in REFUSALS {
+            let _ = write!(text, " {number}:{}", self.refused[usize::from(number)]);
         }
     }
 }
