@@ -139,6 +139,11 @@ static int is_input(u8 input) {
     return input == 1 || input == 2 || input == 3 || input == 5 || input == 6;
 }
 
+/* the number of a value that the row lacks: 13 for a command's step or request, else 4 */
+static unsigned lacking(int answers, u8 value) {
+    return !answers && value >= 0xF0 && value <= 0xF2 ? 13 : 4;
+}
+
 static void put_frame(const u8 *frame, int answers, unsigned zones) {
     unsigned header = answers ? 5 : 4, count = frame[header - 1];
     u8 zone = frame[1], code = frame[2], ac = answers ? frame[3] : 0;
@@ -184,7 +189,7 @@ static void put_frame(const u8 *frame, int answers, unsigned zones) {
     } else {
         word = answers ? 0 : word_of(row, body[0]);
         if (!word && !has(answers ? row->answer : row->set, body[0])) {
-            put_unread(4);
+            put_unread(lacking(answers, body[0]));
             return;
         }
     }
