@@ -115,7 +115,7 @@ pub(super) fn last(count: u64, bytes: &[u8]) -> String {
     }
 }
 
-/// The listing, through a buffer of that length if one is given; 12, 11, then 9.
+/// The listing, through a buffer of that length if one is given: 9 if it is too small, then 12, 11.
 pub(super) fn list(input: &[u8], buffer: Option<usize>, tally: &mut Tally) -> Answer {
     if buffer.is_some_and(|length| length < PIECES_LEAST) {
         return Err(9.into());
