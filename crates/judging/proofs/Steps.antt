@@ -12,8 +12,9 @@ use Rattle.lists.proofs.Tests.{both}
 use Rattle.refusals.specs.RulePromise.{FirstApplies}
 use Rattle.frame.specs.declared.direction.Direction.{Direction}
 use Rattle.frame.specs.declared.direction.Direction.the-variants.{Command, Answer}
-use Rattle.row.specs.Table.{table}
+use Rattle.row.specs.Table.{table, firstRow}
 use Rattle.row.specs.declared.profile.Profile.{Profile}
+use Rattle.row.specs.declared.profile.Profile.the-variants.{S}
 use Rattle.row.specs.declared.table.Row.{Row}
 use Rattle.judging.specs.Judge.{hasByte, hasLength, hasValue, hasData, isStepOrRequest, lacksStep, valueRefusal, rowRules, dataRules, judgeRules, rowJudged, judgedOf}
 use Rattle.judging.specs.Numbers.{judgedNumber}
@@ -123,3 +124,8 @@ step-promise profile dir zone command body = record {
 pub step-rows-promise : StepRowsPromise
 unfolding table
 step-rows-promise = record { requests = refl; steps = refl; same = refl; lacks = λ row b step wrong. rw (is-step b step, wrong) }
+
+-- a premise that can be met: the frame that document 02 names
+pub s-37-lacks-f1 : MissingStep S Command 1 0x37 (0xF1 ∷ [])
+unfolding table firstRow judgedOf
+s-37-lacks-f1 = step-promise S Command 1 0x37 (0xF1 ∷ []) .alone refl

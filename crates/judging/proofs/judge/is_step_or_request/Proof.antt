@@ -5,7 +5,7 @@ use Rattle.judging.proofs.judge.is_step_or_request.Statement.{statement
 use Rattle.judging.proofs.judge.is_step_or_request.Tie as tie
 
 returns : tie.Need-returns
-returns c = search (needs, eq-eqb, ne-eqb)
+returns c = search (needs, eq-eqb)
 
 returns-2 : tie.Need-returns-2
 returns-2 c = search (needs, eq-eqb, ne-eqb)
