@@ -149,18 +149,6 @@ module _ (profile : Profile) (dir : Direction) (zone command : ℕ) (body : List
   abbrev unfit : Row → Bool
   unfit row = not (hasValue dir row body)
 
-  pub judge-passes : refuses (judgeRules profile dir zone command body) ≡ false → Passes profile dir zone command body
-  judge-passes e =
-      let p = pass-row profile zone command (dataRules dir body) e in
-      let row = p .row in
-      let (long, value) = or-false (not (hasLength dir row (length body))) (unfit row) (sym (value-refuses row (length body) body (unfit row) dir (ap not)) ∙ p .rest) in
-      record { row = row; lies = p .lies; long = not-false _ long; value = not-false _ value }
-
-  pub passes-judge : (row : Row) → Lies profile zone command row → hasLength dir row (length body) ≡ true → hasValue dir row body ≡ true
-      → refuses (judgeRules profile dir zone command body) ≡ false
-  passes-judge row l long value =
-      lies-refuses profile zone command row l (dataRules dir body) ∙ value-refuses row (length body) body (unfit row) dir (ap not) ∙ rw (long, value)
-
   -- a judgement goes on from that of zone and row
   pub judge-refused : (n : ℕ) → rowJudged profile zone command ≡ Refused n → judgedOf profile dir zone command body ≡ Refused n
   unfolding judgedOf
@@ -172,6 +160,18 @@ module _ (profile : Profile) (dir : Direction) (zone command : ℕ) (body : List
   judge-legal row e =
       let l = judged-lies profile zone command row e in
       lies-goes profile zone command row l (dataRules dir body) Refused _ ∙ value-goes row (length body) body (unfit row) dir (ap not) Refused _ ∙ rw (l .there)
+
+  pub judge-passes : refuses (judgeRules profile dir zone command body) ≡ false → Passes profile dir zone command body
+  judge-passes e =
+      let p = pass-row profile zone command (dataRules dir body) e in
+      let row = p .row in
+      let (long, value) = or-false (not (hasLength dir row (length body))) (unfit row) (sym (value-refuses row (length body) body (unfit row) dir (ap not)) ∙ p .rest) in
+      record { row = row; lies = p .lies; long = not-false _ long; value = not-false _ value }
+
+  pub passes-judge : (row : Row) → Lies profile zone command row → hasLength dir row (length body) ≡ true → hasValue dir row body ≡ true
+      → refuses (judgeRules profile dir zone command body) ≡ false
+  passes-judge row l long value =
+      lies-refuses profile zone command row l (dataRules dir body) ∙ value-refuses row (length body) body (unfit row) dir (ap not) ∙ rw (long, value)
 
   -- what is judged legal passes, in its row
   pub judged-passes : (row : Row) → judgedOf profile dir zone command body ≡ Legal row

@@ -1,4 +1,5 @@
 -- Proofs about the rules of the refusals.
+pub mod InRows
 pub mod Judges
 pub mod Order
 pub mod Steps

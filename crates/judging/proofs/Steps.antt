@@ -18,15 +18,11 @@ use Rattle.row.specs.declared.profile.Profile.the-variants.{S}
 use Rattle.row.specs.declared.table.Row.{Row}
 use Rattle.judging.specs.Judge.{hasByte, hasLength, hasValue, hasData, isStepOrRequest, lacksStep, valueRefusal, rowRules, dataRules, judgeRules, rowJudged, judgedOf}
 use Rattle.judging.specs.Numbers.{judgedNumber}
-use Rattle.judging.specs.StepPromise.{IsStepOrRequest, MissingStep, StepPromise, StepRowsPromise}
+use Rattle.judging.specs.StepPromise.{IsStepOrRequest, MissingStep, StepPromise}
 use Rattle.judging.specs.declared.judge.Judged.the-variants.{Legal, Refused}
 use Rattle.judging.proofs.Judges.{Lies, lies-judged, judge-refused, judge-legal, first-number, row-numbers}
 use Rattle.judging.proofs.Order.{row-first, judge-promise}
-
-is-step : (b : ℕ) → IsStepOrRequest b → isStepOrRequest b ≡ true
-is-step b (inl e) = rw e
-is-step b (inr (inl e)) = rw e
-is-step b (inr (inr e)) = rw e
+use Rattle.judging.proofs.InRows.{is-step}
 
 step-is : (b : ℕ) → isStepOrRequest b ≡ true → IsStepOrRequest b
 step-is b e = go (eqb b 0xF0) (eqb b 0xF1) refl refl e
@@ -37,6 +33,11 @@ step-is b e = go (eqb b 0xF0) (eqb b 0xF1) refl refl e
     go false false f g h = inr (inr (eqb-true b 0xF2 h))
 
 module _ (profile : Profile) (zone command : ℕ) where
+  step : (dir : Direction) (body : List ℕ) → MissingStep profile dir zone command body → judgedOf profile dir zone command body ≡ Refused 13
+  step dir body l =
+      rw (l .sent, l .one)
+      (judge-legal profile Command zone command (l .byte ∷ []) (l .row) (l .legal) ∙ rw (is-step (l .byte) (l .step), l .lacks))
+
   -- the step that a row lacks, taken out of its data
   lacked : (row : Row) → Lies profile zone command row → (body : List ℕ) → lacksStep row body ≡ true → MissingStep profile Command zone command body
   lacked row l [] e = let z : _≡_ {A = ℕ} 0 1 = cc in absurd (omega arith)
@@ -78,11 +79,6 @@ module _ (profile : Profile) (zone command : ℕ) where
           (row-numbers (λ n. n ≡ 13 → ⊥) (λ z. omega arith) (λ z. omega arith) profile zone command (λ row. []) (λ row. tt)) 13 w refl)
       go (inr (row, l, w)) = by-data dir row l body w
 
-  step : (dir : Direction) (body : List ℕ) → MissingStep profile dir zone command body → judgedOf profile dir zone command body ≡ Refused 13
-  step dir body l =
-      rw (l .sent, l .one)
-      (judge-legal profile Command zone command (l .byte ∷ []) (l .row) (l .legal) ∙ rw (is-step (l .byte) (l .step), l .lacks))
-
   rest : (dir : Direction) (body : List ℕ) (row : Row) → rowJudged profile zone command ≡ Legal row → hasLength dir row (length body) ≡ true → hasValue dir row body ≡ false
       → (MissingStep profile dir zone command body → ⊥) → judgedOf profile dir zone command body ≡ Refused 4
   rest dir body row legal long wrong other = refused ∙ ap Refused (four dir refl)
@@ -120,10 +116,6 @@ step-promise profile dir zone command body = record {
   alone = alone profile zone command dir body;
   rest = rest profile zone command dir body;
 }
-
-pub step-rows-promise : StepRowsPromise
-unfolding table
-step-rows-promise = record { requests = refl; steps = refl; same = refl; lacks = λ row b step wrong. rw (is-step b step, wrong) }
 
 -- a premise that can be met: the frame that document 02 names
 pub s-37-lacks-f1 : MissingStep S Command 1 0x37 (0xF1 ∷ [])

@@ -27,6 +27,10 @@ use Rattle.message.specs.MessageWritePromise.{SameChecksPromise}
 use Rattle.message.specs.declared.content.Content.{Content}
 use Rattle.message.proofs.Written.{data-size, writes, no-form}
 
+never : (t : Bool) → (t ≡ true → ⊥) → t ≡ false
+never true f = absurd (f refl)
+never false f = refl
+
 -- rules of a length, and at 4's place of unfit data: where more data are unfit, the same number comes, and 4 beside
 module _ (row : Row) (n : ℕ) (body : List ℕ) (unfit more : Bool) where
   abbrev rules : Direction → Bool → List Rule
@@ -112,31 +116,22 @@ module _ (profile : Profile) (dir : Direction) (zone command : ℕ) (content : C
   -- what has no data is no form of the row, and no step
   module _ (row : Row) (other : length (load row) ≡ sizeOf content → ⊥) where
     no-data : isForm dir row content ≡ false
-    no-data = go (isForm dir row content) refl
-      where
-        go : (t : Bool) → isForm dir row content ≡ t → t ≡ false
-        go true f = absurd (other (writes dir row content f .1))
-        go false f = refl
+    no-data = never (isForm dir row content) (λ f. other (writes dir row content f .1))
 
     no-step : lacksStep row (load row) ≡ false
-    no-step = go (lacksStep row (load row)) refl
-      where
-        go : (t : Bool) → lacksStep row (load row) ≡ t → t ≡ false
-        go true f = absurd (other (data-size Command row content (rw (eqb-true (length (load row)) 1 (both (eqb (length (load row)) 1) _ f .0)))))
-        go false f = refl
+    no-step =
+        never (lacksStep row (load row))
+        (λ f. other (data-size Command row content (rw (eqb-true (length (load row)) 1 (both (eqb (length (load row)) 1) _ f .0)))))
 
-    lacks : (d : Direction) → dir ≡ d → FirstApplies (formRules d content row) (cond (hasLength d row (sizeOf content)) 4 3)
-    lacks d same = go (hasLength d row (sizeOf content)) refl
+    lacks : FirstApplies (formRules dir content row) (cond (hasLength dir row (sizeOf content)) 4 3)
+    lacks = go (hasLength dir row (sizeOf content)) refl
       where
-        wrong : not (isForm d row content) ≡ true
-        wrong = rw (← same, no-data)
-
         four : (d : Direction) → not (isForm d row content) ≡ true → FirstApplies (valueRules d row (load row) (not (isForm d row content))) 4
         four Command f = inr (no-step, inl (rw (f, no-step), refl))
         four Answer f = inl (f, refl)
 
-        go : (t : Bool) → hasLength d row (sizeOf content) ≡ t → FirstApplies (formRules d content row) (cond t 4 3)
-        go true e = inr (ap not e, four d wrong)
+        go : (t : Bool) → hasLength dir row (sizeOf content) ≡ t → FirstApplies (formRules dir content row) (cond t 4 3)
+        go true e = inr (ap not e, four dir (ap not no-data))
         go false e = inl (ap not e, refl)
 
   uncoded : (length body ≡ sizeOf content → ⊥) → (row : Row) → rowOf profile command ≡ found.Row row → NoneApplies (rowRules profile zone command (λ row. []))
@@ -144,7 +139,7 @@ module _ (profile : Profile) (dir : Direction) (zone command : ℕ) (content : C
   uncoded other row e none =
       let p = pass-row profile zone command (λ row. []) (none-refuses (rowRules profile zone command (λ row. [])) none) in
       let l : Lies profile zone command row = rw (same-row (rowOf profile command) (p .row) row (p .lies .there) e) at (p .lies) in
-      first-lies profile zone command (formRules dir content) row l _ (lacks row (λ f. other (ap length (in-row row e) ∙ f)) dir refl)
+      first-lies profile zone command (formRules dir content) row l _ (lacks row (λ f. other (ap length (in-row row e) ∙ f)))
 
   pub same-checks-promise : SameChecksPromise profile dir zone command content
   same-checks-promise = record {
