@@ -3,3 +3,4 @@ pub mod Judge
 pub mod Numbers
 pub mod JudgePromise
 pub mod StepPromise
+pub mod ZeroRowsPromise

@@ -41,18 +41,18 @@ pub record StepPromise (profile : Profile) (dir : Direction) (zone command : ℕ
   pub rest : (row : Row) → rowJudged profile zone command ≡ Legal row → hasLength dir row (length body) ≡ true → hasValue dir row body ≡ false
       → (MissingStep profile dir zone command body → ⊥) → judgedOf profile dir zone command body ≡ Refused 4
 
--- what one byte gives as a command's data, row by row in document 01's order; 0 where the row has it
-abbrev pub inRows : ℕ → List ℕ
-inRows b = map (λ (row : Row). ruled (dataRules Command (b ∷ []) row) (λ n. n) 0) table
+-- what data of one byte give in a direction, row by row in document 01's order; 0 where the row has it
+abbrev pub inRows : Direction → ℕ → List ℕ
+inRows dir b = map (λ (row : Row). ruled (dataRules dir (b ∷ []) row) (λ n. n) 0) table
 
 -- which rows have requests and steps, or on and off
 pub record StepRowsPromise : Type 0 where
   -- every row has F0
-  pub requests : inRows 0xF0 ≡ replicate 19 0
+  pub requests : inRows Command 0xF0 ≡ replicate 19 0
   -- F1 and F2: of A's 0F, 10, 11, 37, 38, 39, 3A, 44, 45, 46 the rows 37, 39, 3A, 45 and 46, and of S's 0D, 0E, 0F, 37, 3B, 44, 5A, 5B, 5C the row 0D
-  pub steps : inRows 0xF1
+  pub steps : inRows Command 0xF1
       ≡ 13 ∷ 13 ∷ 13 ∷ 0 ∷ 13 ∷ 0 ∷ 0 ∷ 13 ∷ 0 ∷ 0
       ∷ 0 ∷ 13 ∷ 13 ∷ 13 ∷ 13 ∷ 13 ∷ 13 ∷ 13 ∷ 13 ∷ []
-  pub same : inRows 0xF2 ≡ inRows 0xF1
+  pub same : inRows Command 0xF2 ≡ inRows Command 0xF1
   -- a row that lacked F0 would give 13 for it too
   pub lacks : (row : Row) (b : ℕ) → IsStepOrRequest b → hasByte Command row b ≡ false → valueRefusal Command row (b ∷ []) ≡ 13

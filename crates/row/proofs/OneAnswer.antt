@@ -7,7 +7,9 @@ use Rattle.refusals.proofs.One.{one}
 use Rattle.row.specs.Profile.{profileOf, letterOf, zonesOf}
 use Rattle.row.specs.Table.{rowOf}
 use Rattle.row.specs.Signed.{numberOf, codeOf, plainCodeOf}
+use Rattle.row.specs.MinusZero.{isMinusZero}
 use Rattle.row.specs.declared.profile.Profile.{Profile}
+use Rattle.row.specs.declared.table.Row.{Row}
 
 pub profile-of-one : (letter : ℕ) → OneAnswer (λ x. x ≡ profileOf letter)
 profile-of-one letter = one (profileOf letter)
@@ -29,3 +31,6 @@ code-of-one number = one (codeOf number)
 
 pub plain-code-of-one : (number : ℤ) → OneAnswer (λ x. x ≡ plainCodeOf number)
 plain-code-of-one number = one (plainCodeOf number)
+
+pub is-minus-zero-one : (row : Row) (code : ℕ) → OneAnswer (λ x. x ≡ isMinusZero row code)
+is-minus-zero-one row code = one (isMinusZero row code)

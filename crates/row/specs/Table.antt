@@ -1,4 +1,5 @@
--- Document 01, 'Commands of the two profiles': the table, row by row, in its order.
+-- Document 01, 'Commands of the two profiles': the table, row by row, in its order; with document 02, C-14: "Read 80 as zero in A 3A,
+-- A 45 and A 46, in commands and answers, and in S 3B's answers; A 45 runs to A8".
 use Prim.Native.Nat.{ℕ, suc}
 use mathlib.Core.Bool.{Bool, false, cond, _&&_, _||_}
 use mathlib.Core.List.{List, [], _∷_}
@@ -87,15 +88,15 @@ table =
     ∷ row A 0x37 3 none none (0x00 ⋯ 0x02) none (request ∷ switch ∷ [])  -- room EQ
     ∷ row A 0x38 3 (0x00 ⋯ 0x02) none (0x00 ⋯ 0x02) none († ∷ request ∷ [])  -- Dolby Volume
     ∷ row A 0x39 3 (0x00 ⋯ 0x0A) (0xFF ⋯ 0xFF) (0x00 ⋯ 0x0A) (0xFF ⋯ 0xFF) († ∷ off ∷ request ∷ steps ∷ [])  -- Leveller
-    ∷ row A 0x3A 3 (0x00 ⋯ 0x0F) (0x81 ⋯ 0x8F) (0x00 ⋯ 0x0F) (0x81 ⋯ 0x8F) († ∷ signed ∷ request ∷ steps ∷ [])  -- calibration offset, dB
+    ∷ row A 0x3A 3 (0x00 ⋯ 0x0F) (0x80 ⋯ 0x8F) (0x00 ⋯ 0x0F) (0x80 ⋯ 0x8F) († ∷ signed ∷ request ∷ steps ∷ [])  -- calibration offset, dB
     ∷ row A 0x44 3 none none (0x00 ⋯ 0x08) none (request ∷ [])  -- sample rate
-    ∷ row A 0x45 3 (0x00 ⋯ 0x00) (0x81 ⋯ 0x8A) (0x00 ⋯ 0x00) (0x81 ⋯ 0x8A) († ∷ signed ∷ request ∷ steps ∷ [])  -- sub trim, quarter dB
-    ∷ row A 0x46 3 (0x00 ⋯ 0x0A) (0x81 ⋯ 0x8A) (0x00 ⋯ 0x0A) (0x81 ⋯ 0x8A) († ∷ signed ∷ request ∷ steps ∷ [])  -- picture brightness
+    ∷ row A 0x45 3 (0x00 ⋯ 0x00) (0x80 ⋯ 0xA8) (0x00 ⋯ 0x00) (0x80 ⋯ 0xA8) († ∷ signed ∷ request ∷ steps ∷ [])  -- sub trim, quarter dB
+    ∷ row A 0x46 3 (0x00 ⋯ 0x0A) (0x80 ⋯ 0x8A) (0x00 ⋯ 0x0A) (0x80 ⋯ 0x8A) († ∷ signed ∷ request ∷ steps ∷ [])  -- picture brightness
     ∷ row S 0x0D 2 (0x00 ⋯ 0x63) none (0x00 ⋯ 0x63) none († ∷ request ∷ steps ∷ [])  -- volume
     ∷ row S 0x0E 2 (0x00 ⋯ 0x01) none (0x00 ⋯ 0x01) none († ∷ request ∷ toggle ∷ [])  -- mute
     ∷ row S 0x0F 1 none none (0x01 ⋯ 0x03) (0x05 ⋯ 0x06) (pair ∷ request ∷ [])  -- direct
     ∷ row S 0x37 2 (0x00 ⋯ 0x06) none (0x00 ⋯ 0x06) (0xA0 ⋯ 0xA0) (request ∷ [])  -- room EQ
-    ∷ row S 0x3B 2 none none (0x00 ⋯ 0x0C) (0x81 ⋯ 0x8C) (signed ∷ request ∷ [])  -- balance
+    ∷ row S 0x3B 2 none none (0x00 ⋯ 0x0C) (0x80 ⋯ 0x8C) (signed ∷ request ∷ [])  -- balance
     ∷ row S 0x44 2 none none (0x00 ⋯ 0x0A) none (request ∷ [])  -- sample rate
     ∷ row S 0x5A 2 none none (0x00 ⋯ 0x01) none (request ∷ [])  -- input detect
     ∷ row S 0x5B 2 (0x00 ⋯ 0x00) (0x02 ⋯ 0x09) (0x00 ⋯ 0x00) (0x02 ⋯ 0x09) († ∷ request ∷ [])  -- processor input

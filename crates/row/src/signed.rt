@@ -1,6 +1,8 @@
 // The ways between a code and the number it means.
+use crate::table::Row;
 ghost use mathlib.Core.Path.{_≡_};
 ghost use Rattle.row.specs.Signed.{numberOf, codeOf, plainCodeOf};
+ghost use Rattle.row.specs.MinusZero.{isMinusZero};
 
 // A number's code, if it has one.
 pub enum Coded {
@@ -45,4 +47,14 @@ pub fn plain_code_of(number: i16) -> Coded
         return Coded::NoCode;
     }
     Coded::Code(number as u8)
+}
+
+// Whether a code is minus zero in a row: 80 where codes mean signed numbers, which is 0 as 00 is.
+pub fn is_minus_zero(row: Row, code: u8) -> bool
+    ensures { λ r. ⌜ r ≡ isMinusZero row code ⌝ }
+{
+    if code != 0x80 {
+        return false;
+    }
+    row.signed
 }
