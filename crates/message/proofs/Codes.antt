@@ -6,10 +6,13 @@ use native.Mathlib.Omega.{arith}
 use borrow.Author.Tests.{le-leb}
 use lib.Dec.{leb}
 use lib.IntN.{ℤ, pos, negsuc}
+use Rattle.row.specs.MinusZero.{normal}
 use Rattle.row.specs.Signed.{numberOf, codeOf, plainCodeOf}
 use Rattle.row.specs.declared.signed.Coded.{Coded}
 use Rattle.row.specs.declared.signed.Coded.the-variants.{Code, NoCode}
+use Rattle.row.specs.declared.table.Row.{Row}
 use Rattle.row.proofs.Inverse.{signed-promise}
+use Rattle.row.proofs.Turned.{minus-zero-promise}
 
 -- by the row's mark
 abbrev pub codeBy : Bool → ℤ → Coded
@@ -18,10 +21,14 @@ codeBy signed z = cond signed (codeOf z) (plainCodeOf z)
 abbrev pub numberBy : Bool → ℕ → ℤ
 numberBy signed b = cond signed (numberOf b) (pos b)
 
-pub number-coded : (signed : Bool) (b : ℕ) → b < 256 → (signed ≡ true → b ≡ 0x80 → ⊥) → codeBy signed (numberBy signed b) ≡ Code b
+-- but for minus zero a number's code is the code that it was
+pub number-coded : (row : Row) (b : ℕ) → b < 256 → codeBy (row .signed) (numberBy (row .signed) b) ≡ Code (normal row b)
 unfolding plainCodeOf
-number-coded true b h other = signed-promise .code-number b h (other refl)
-number-coded false b h other = rw (le-leb b 0xFF (omega arith))
+number-coded row b h = go (row .signed) refl
+  where
+    go : (t : Bool) → row .signed ≡ t → codeBy t (numberBy t b) ≡ Code (normal row b)
+    go true e = minus-zero-promise .written row b e h
+    go false e = rw (le-leb b 0xFF (omega arith), minus-zero-promise .unsigned row b e)
 
 pub coded-number : (signed : Bool) (z : ℤ) (c : ℕ) → codeBy signed z ≡ Code c → numberBy signed c ≡ z
 unfolding plainCodeOf

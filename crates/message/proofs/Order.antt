@@ -6,7 +6,6 @@ use Prim.Native.Nat.{ℕ}
 use native.Mathlib.Omega.{arith}
 use borrow.Author.Tests.{ne-eqb}
 use Rattle.refusals.specs.Rule.{Rule}
-use Rattle.frame.specs.Frame.{frameOf}
 use Rattle.fields.specs.Fields.{fieldsIn, dataOf}
 use Rattle.refusals.specs.RulePromise.{FirstApplies, NoneApplies}
 use Rattle.frame.specs.declared.direction.Direction.{Direction}
@@ -16,7 +15,7 @@ use Rattle.judging.proofs.Order.{none-refuses}
 use Rattle.row.specs.Profile.{profileOf}
 use Rattle.row.specs.declared.profile.Profile.{Profile}
 use Rattle.message.specs.Message.{readRules, messageOf, readOf, frameRead}
-use Rattle.message.specs.Write.{writeRules, messageFrame}
+use Rattle.message.specs.Write.{writeRules, messageFrame, fieldsFrame}
 use Rattle.message.specs.Numbers.{readingNumber, readingPaper, frameNumber, framePaper, zeroPaper}
 use Rattle.message.proofs.Trip.{paper-of, passed-message, frame-brings}
 use Rattle.message.specs.OrderPromise.{OrderPromise}
@@ -65,7 +64,7 @@ module _ (profile : Profile) (dir : Direction) (zone command ac : ℕ) (body : L
 pub message-write-promise : MessageWritePromise
 message-write-promise = record {
   message = λ profile buf at m body. write-promise (writeRules profile m body) buf at (messageFrame profile m body);
-  fields = λ profile dir buf at zone command ac body. write-promise (readRules profile dir zone command ac body) buf at (frameOf dir zone command ac body);
+  fields = λ profile dir buf at zone command ac body. write-promise (readRules profile dir zone command ac body) buf at (fieldsFrame profile dir zone command ac body);
 }
 
 -- what was refused has no fields

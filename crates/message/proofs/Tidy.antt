@@ -4,11 +4,12 @@ use mathlib.Core.Bool.{Bool, true, false, cond, not, _&&_, _||_}
 use mathlib.Core.List.{List, [], _∷_}
 use Prim.Native.Nat.{ℕ, _<_}
 use native.Mathlib.Omega.{arith}
-use borrow.Author.Tests.{eq-eqb, leb-true, not-true}
-use lib.Dec.{eqb, leb}
+use borrow.Author.Tests.{leb-true, not-true}
+use lib.Dec.{leb}
 use Rattle.lists.specs.Each.{Each}
 use Rattle.frame.specs.declared.direction.Direction.{Direction}
 use Rattle.frame.specs.declared.direction.Direction.the-variants.{Command, Answer}
+use Rattle.row.specs.MinusZero.{normal}
 use Rattle.row.specs.Profile.{letterOf}
 use Rattle.row.specs.Table.{table, rowOf}
 use Rattle.row.specs.declared.profile.Profile.{Profile}
@@ -21,10 +22,11 @@ use Rattle.message.proofs.Fits.{valueByte, inCommand}
 use Rattle.lists.proofs.Tests.{both, upto, upto-at}
 
 pub record Tidy (dir : Direction) (row : Row) : Type 0 where
-  -- a value is a byte, no word of the row, and not 80 in a signed row
+  -- a value is a byte and no word of the row, and what it is turned into is a value; a row of pairs is not signed
   pub byte : (b : ℕ) → valueByte dir row b ≡ true → b < 256
   pub no-word : (b : ℕ) → valueByte dir row b ≡ true → inCommand dir (isWord row b) ≡ false
-  pub no-minus-zero : (b : ℕ) → valueByte dir row b ≡ true → row .signed ≡ true → b ≡ 0x80 → ⊥
+  pub turned : (b : ℕ) → valueByte dir row b ≡ true → valueByte dir row (normal row b) ≡ true
+  pub pairs : row .pair ≡ true → row .signed ≡ false
 
 -- the same as tests; codes of a table of bytes are bytes
 abbrev pub areBytes : Codes → Codes → Bool
@@ -35,10 +37,10 @@ byteCodes Command row = areBytes (row .settings) (row .settings2)
 byteCodes Answer row = areBytes (row .answers) (row .answers2)
 
 abbrev clean : Direction → Row → ℕ → Bool
-clean dir row b = cond (valueByte dir row b) (not (inCommand dir (isWord row b)) && not (row .signed && eqb b 0x80)) true
+clean dir row b = cond (valueByte dir row b) (not (inCommand dir (isWord row b)) && valueByte dir row (normal row b)) true
 
 abbrev tidy : Direction → Row → Bool
-tidy dir row = upto 256 (clean dir row) && byteCodes dir row
+tidy dir row = upto 256 (clean dir row) && (byteCodes dir row && not (row .pair && row .signed))
 
 within-byte : (codes : Codes) (b : ℕ) → leb (codes .high) 255 ≡ true → within codes b ≡ true → b < 256
 within-byte codes b e f = let (low, high) = both (leb (codes .low) b) (leb b (codes .high)) f in omega (arith, leb-true)
@@ -55,22 +57,25 @@ codes-byte Command row = code-byte (row .settings) (row .settings2)
 codes-byte Answer row = code-byte (row .answers) (row .answers2)
 
 tidy-says : (dir : Direction) (row : Row) → tidy dir row ≡ true → Tidy dir row
-tidy-says dir row e = record { byte = byte; no-word = no-word; no-minus-zero = no-minus-zero }
+tidy-says dir row e = record { byte = byte; no-word = no-word; turned = λ b v. cleaned b v .1; pairs = pairs }
   where
-    parts : (upto 256 (clean dir row) ≡ true) × (byteCodes dir row ≡ true)
-    parts = both (upto 256 (clean dir row)) (byteCodes dir row) e
+    parts : (upto 256 (clean dir row) ≡ true) × (byteCodes dir row ≡ true) × (not (row .pair && row .signed) ≡ true)
+    parts =
+        let (values, rest) = both (upto 256 (clean dir row)) _ e in
+        let (bytes, plain) = both (byteCodes dir row) _ rest in
+        (values, bytes, plain)
 
     byte : (b : ℕ) → valueByte dir row b ≡ true → b < 256
     byte = codes-byte dir row (parts .1)
 
-    cleaned : (b : ℕ) → valueByte dir row b ≡ true → (not (inCommand dir (isWord row b)) ≡ true) × (not (row .signed && eqb b 0x80) ≡ true)
+    cleaned : (b : ℕ) → valueByte dir row b ≡ true → (not (inCommand dir (isWord row b)) ≡ true) × (valueByte dir row (normal row b) ≡ true)
     cleaned b v = both _ _ (rw v at (upto-at 256 (clean dir row) (parts .0) b (byte b v)))
 
     no-word : (b : ℕ) → valueByte dir row b ≡ true → inCommand dir (isWord row b) ≡ false
     no-word b v = not-true _ (cleaned b v .0)
 
-    no-minus-zero : (b : ℕ) → valueByte dir row b ≡ true → row .signed ≡ true → b ≡ 0x80 → ⊥
-    no-minus-zero b v s h = let z : _≡_ {A = ℕ} 0 1 = cc (cleaned b v .1, eq-eqb b 0x80 h) in omega arith
+    pairs : row .pair ≡ true → row .signed ≡ false
+    pairs p = not-true _ (rw p at (parts .2))
 
 -- what every row of the table passes, the row that is found passes
 abbrev pub every : (Row → Bool) → List Row → Bool

@@ -1,14 +1,18 @@
--- A message that is written reads back as itself, and a frame that reads as a message is written back to the same bytes.
+-- A message that is written reads back as itself, and a frame that reads as a message is written back to the same bytes, but for minus
+-- zero, for which the same frame with 00 is written.
 use mathlib.Core.Path.{_≡_, refl, ap, sym, _∙_, subst}
 use mathlib.Core.Bool.{Bool, true, false, cond, not, _||_, or-true}
-use mathlib.Core.List.{List, [], _∷_}
+use mathlib.Core.List.{List, [], _∷_, map}
+use mathlib.Core.Logic.{_⊎_, inl, inr}
 use Prim.Native.Nat.{ℕ, _+_, _-_, _≤_}
 use native.Mathlib.Omega.{arith}
 use borrow.Author.Tests.{not-false, eqb-true}
 use lib.Dec.{eqb}
-use lib.ListN.{length}
+use lib.IntN.{pos}
+use lib.ListN.{length, length-map}
 use Rattle.refusals.specs.Rule.{Rule}
-use Rattle.frame.specs.Frame.{frameOf}
+use Rattle.frame.specs.Frame.{frameLength, frameOf}
+use Rattle.frame.proofs.Header.{frame-length}
 use Rattle.lent.specs.Placed.{placed}
 use Rattle.fields.specs.Raw.{tooLong}
 use Rattle.fields.specs.Fields.{isFrame, answerIn, fieldsIn, dataIn, fieldsOf, dataOf, answerKept}
@@ -20,21 +24,24 @@ use Rattle.lent.specs.declared.written.Written.the-variants as written
 use Rattle.refusals.proofs.Ruled.{refuses, was-accepted, accepted-by, or-false, pass-first, pass-both}
 use Rattle.fields.proofs.Back.{frame-promise, placed-found, placed-bytes}
 use Rattle.fields.proofs.Again.{frame-again}
+use Rattle.row.specs.MinusZero.{normal, normalIn}
 use Rattle.row.specs.Table.{rowOf}
 use Rattle.row.specs.declared.profile.Profile.{Profile}
 use Rattle.row.specs.declared.table.Row.{Row}
 use Rattle.row.specs.declared.table.Found.{Found}
 use Rattle.row.specs.declared.table.Found.the-variants as found
+use Rattle.row.proofs.Turned.{minus-zero-promise}
 use Rattle.judging.specs.Judge.{hasLength, hasValue, judgeRules}
 use Rattle.judging.proofs.Judges.{lies-refuses, pass-row, judge-passes, passes-judge}
 use Rattle.message.specs.Content as content
-use Rattle.message.specs.Message.{isDenial, wrongCode, said, denial, readRules, messageIn, messageOf, readOf, deniedData, fromReading, frameRead}
-use Rattle.message.specs.Write.{formRules, saidRules, saidIn, saidData, notDenied, messageDirection, writeRules, messageFrame}
+use Rattle.message.specs.Message.{isDenial, wrongCode, said, denial, readRules, messageIn, messageOf, readOf, denies, dataRead, deniedData, fromReading, frameRead}
+use Rattle.message.specs.Write.{formRules, saidRules, saidIn, saidData, notDenied, messageDirection, writeRules, messageFrame, fieldsFrame}
 use Rattle.lent.specs.Written.{writeAnswered, writeLeft}
 use Rattle.lent.proofs.Writes.{write-promise, write-passed, write-fits}
 use Rattle.message.specs.Numbers.{Paper, messagePaper}
-use Rattle.message.specs.MessagePromise.{ReadsAs, ReadsBack, MessagePromise}
+use Rattle.message.specs.MessagePromise.{ReadsAs, ReadsBack, IsMinusZero, BringsMinusZero, MessagePromise, zeroMessage, ZeroPromise, ZeroFramePromise}
 use Rattle.message.specs.declared.content.Content.{Content}
+use Rattle.message.specs.declared.content.Content.the-variants.{Number}
 use Rattle.message.specs.declared.read.Message.{Message}
 use Rattle.message.specs.declared.read.Message.the-variants as message
 use Rattle.message.specs.declared.read.Reading.{Reading}
@@ -44,6 +51,8 @@ use Rattle.lists.proofs.Tests.{both}
 use Rattle.message.proofs.Forms.{form-promise}
 use Rattle.message.proofs.Written.{data-size, form-refuses}
 use Rattle.message.proofs.Readings.{frame-some}
+use Rattle.message.proofs.Says.{zero-content, zero-or-same}
+use Rattle.message.proofs.Tidy.{row-tidy}
 
 -- what is said in a row, and data that say it
 record Sayable (profile : Profile) (dir : Direction) (zone command : ℕ) (c : Content) (body : List ℕ) : Type 0 where
@@ -52,7 +61,6 @@ record Sayable (profile : Profile) (dir : Direction) (zone command : ℕ) (c : C
   judges : refuses (judgeRules profile dir zone command body) ≡ false
   says : refuses (saidRules profile dir zone command c) ≡ false
   means : content.contentOf dir row body ≡ c
-  load : saidData profile command c ≡ body
 
 module _ (profile : Profile) (dir : Direction) (zone command : ℕ) where
   data-in : (row : Row) (c : Content) → rowOf profile command ≡ found.Row row → saidData profile command c ≡ content.encodedData (content.encodedOf row c)
@@ -74,17 +82,18 @@ module _ (profile : Profile) (dir : Direction) (zone command : ℕ) where
         judges = passes-judge profile dir zone command body (p .row) (p .lies) fits value;
         says = e;
         means = ap (content.contentOf dir (p .row)) same ∙ w .2;
-        load = refl;
       }
 
-  -- data that are judged legal say something whose data they are
-  judge-say : (body : List ℕ) → refuses (judgeRules profile dir zone command body) ≡ false → (c : Content) × Sayable profile dir zone command c body
+  -- data that are judged legal say something whose data they are, but for minus zero
+  judge-say : (body : List ℕ) → refuses (judgeRules profile dir zone command body) ≡ false
+      → (c : Content) × Sayable profile dir zone command c body × (saidData profile command c ≡ map (normalIn (rowOf profile command)) body)
   judge-say body e =
       let p = judge-passes profile dir zone command body e in
       let c = content.contentOf dir (p .row) body in
       let there = p .lies .there in
       let r = form-promise .read profile command (p .row) dir body there (rw (p .long) (p .value)) in
-      let size : length body ≡ content.sizeOf c = ap length (sym (r .1)) ∙ data-size dir (p .row) c (rw (r .1) (p .long)) in
+      let many : length (content.encodedData (content.encodedOf (p .row) c)) ≡ length body = ap length (r .1) ∙ length-map body (normal (p .row)) in
+      let size : length body ≡ content.sizeOf c = sym many ∙ data-size dir (p .row) c (rw many (p .long)) in
       let long : hasLength dir (p .row) (content.sizeOf c) ≡ true = rw (← size) (p .long) in
       let form = r .0 in (
         c,
@@ -94,8 +103,8 @@ module _ (profile : Profile) (dir : Direction) (zone command : ℕ) where
           judges = e;
           says = lies-refuses profile zone command (p .row) (p .lies) (formRules dir c) ∙ form-refuses dir (p .row) c ∙ rw (long, form);
           means = refl;
-          load = data-in (p .row) c there ∙ r .1;
         },
+        data-in (p .row) c there ∙ r .1 ∙ ap (λ (f : Found). map (normalIn f) body) (sym there),
       )
 
 -- the message of a row that is found
@@ -180,25 +189,25 @@ abbrev paperOf : ℕ → ℕ → ℕ → List ℕ → Paper
 paperOf zone command code body = record { zone = zone; command = command; answer = code; body = body }
 
 -- what is read as a message, written again
-record Again (profile : Profile) (dir : Direction) (zone command ac : ℕ) (body : List ℕ) (m : Message) : Type 0 where
+pub record Again (profile : Profile) (dir : Direction) (zone command ac : ℕ) (body : List ℕ) (m : Message) : Type 0 where
   way : messageDirection m ≡ dir
-  rules : refuses (writeRules profile m body) ≡ false
-  frame : messageFrame profile m body ≡ frameOf dir zone command ac body
-  paper : messagePaper profile m body ≡ paperOf zone command (answerKept dir ac) body
+  pub rules : refuses (writeRules profile m body) ≡ false
+  pub frame : messageFrame profile m body ≡ fieldsFrame profile dir zone command ac body
+  paper : messagePaper profile m body ≡ paperOf zone command (answerKept dir ac) (dataRead profile dir command ac body)
 
 again-of : (profile : Profile) (dir : Direction) (zone command ac : ℕ) (body : List ℕ) → refuses (readRules profile dir zone command ac body) ≡ false
     → (m : Message) × (messageOf profile dir zone command ac body ≡ reading.Message m) × Again profile dir zone command ac body m
 unfolding frameOf
 again-of profile Command zone command ac body e =
-    let (c, j) = judge-say profile Command zone command body e in (
+    let (c, j, load) = judge-say profile Command zone command body e in (
       message.Command (record { zone = zone; command = command; content = c }),
       in-row (rowOf profile command) (j .row) _ (j .there)
           ∙ ap (λ (x : Content). reading.Message (message.Command (record { zone = zone; command = command; content = x }))) (j .means),
       record {
         way = refl;
         rules = j .says;
-        frame = ap (λ (l : List ℕ). frameOf Command zone command ac l) (j .load);
-        paper = ap (λ (l : List ℕ). paperOf zone command 0 l) (j .load);
+        frame = ap (λ (l : List ℕ). frameOf Command zone command ac l) load;
+        paper = ap (λ (l : List ℕ). paperOf zone command 0 l) load;
       },
     )
 again-of profile Answer zone command ac body e = go (isDenial ac) refl (pass-first (wrongCode ac) (cond (isDenial ac) (tooLong body ∷ []) (judgeRules profile Answer zone command body)) e)
@@ -211,13 +220,20 @@ again-of profile Answer zone command ac body e = go (isDenial ac) refl (pass-fir
         → (m : Message)
         × (cond t (reading.Message (message.Denied (denial zone command ac))) (messageIn (rowOf profile command) (λ row. message.Status (said Answer row zone command body))) ≡ reading.Message m)
         × Again profile Answer zone command ac body m
-    go true d p = (
-      message.Denied (denial zone command ac),
-      refl,
-      record { way = refl; rules = pass-both (notDenied ac) (tooLong body ∷ []) (rw d) (p .1); frame = refl; paper = refl },
-    )
+    go true d p =
+        let load : body ≡ dataRead profile Answer command ac body = rw d in (
+          message.Denied (denial zone command ac),
+          refl,
+          record {
+            way = refl;
+            rules = pass-both (notDenied ac) (tooLong body ∷ []) (rw d) (p .1);
+            frame = ap (λ (l : List ℕ). frameOf Answer zone command ac l) load;
+            paper = ap (λ (l : List ℕ). paperOf zone command ac l) load;
+          },
+        )
     go false d p =
-        let (c, j) = judge-say profile Answer zone command body (p .1) in
+        let (c, j, load) = judge-say profile Answer zone command body (p .1) in
+        let kept : saidData profile command c ≡ dataRead profile Answer command ac body = rw d load in
         let code : ac ≡ 0 = eqb-true ac 0 (zero-code (eqb ac 0x00) (rw d at (p .0))) in (
           message.Status (record { zone = zone; command = command; content = c }),
           in-row (rowOf profile command) (j .row) _ (j .there)
@@ -225,8 +241,8 @@ again-of profile Answer zone command ac body e = go (isDenial ac) refl (pass-fir
           record {
             way = refl;
             rules = j .says;
-            frame = ap (λ (l : List ℕ). frameOf Answer zone command 0 l) (j .load) ∙ ap (λ (k : ℕ). frameOf Answer zone command k body) (sym code);
-            paper = ap (λ (l : List ℕ). paperOf zone command 0 l) (j .load) ∙ ap (λ (k : ℕ). paperOf zone command k body) (sym code);
+            frame = ap (λ (l : List ℕ). frameOf Answer zone command 0 l) kept ∙ ap (λ (k : ℕ). frameOf Answer zone command k (dataRead profile Answer command ac body)) (sym code);
+            paper = ap (λ (l : List ℕ). paperOf zone command 0 l) kept ∙ ap (λ (k : ℕ). paperOf zone command k (dataRead profile Answer command ac body)) (sym code);
           },
         )
 
@@ -237,47 +253,119 @@ passed-message profile dir zone command ac body e =
     let a = again-of profile dir zone command ac body e in (a .0, read-passed profile dir zone command ac body e ∙ a .1, a .1)
 
 -- what is read as a message passes, and is written again
-was-read : (profile : Profile) (dir : Direction) (zone command ac : ℕ) (body : List ℕ) (m : Message) → readOf profile dir zone command ac body ≡ reading.Message m
-    → Again profile dir zone command ac body m
+pub read-passes : (profile : Profile) (dir : Direction) (zone command ac : ℕ) (body : List ℕ) (m : Message) → readOf profile dir zone command ac body ≡ reading.Message m
+    → (refuses (readRules profile dir zone command ac body) ≡ false) × (messageOf profile dir zone command ac body ≡ reading.Message m)
 unfolding readOf
-was-read profile dir zone command ac body m e =
-    let w = was-accepted (readRules profile dir zone command ac body) reading.Refused (messageOf profile dir zone command ac body) (reading.Message m) e differ in
-    let a = again-of profile dir zone command ac body (w .0) in
-    subst (λ (x : Message). Again profile dir zone command ac body x) (same (a .0) (sym (a .1) ∙ w .1)) (a .2)
+read-passes profile dir zone command ac body m e =
+    was-accepted (readRules profile dir zone command ac body) reading.Refused (messageOf profile dir zone command ac body) (reading.Message m) e differ
   where
     differ : (n : ℕ) → reading.Refused n ≡ reading.Message m → ⊥
     differ n f = let z : _≡_ {A = ℕ} 0 1 = cc in omega arith
 
-    same : (k : Message) → reading.Message k ≡ reading.Message m → k ≡ m
-    same k f = cc
+same-message : (k m : Message) → reading.Message k ≡ reading.Message m → k ≡ m
+same-message k m e = cc
+
+pub was-read : (profile : Profile) (dir : Direction) (zone command ac : ℕ) (body : List ℕ) (m : Message) → readOf profile dir zone command ac body ≡ reading.Message m
+    → Again profile dir zone command ac body m
+was-read profile dir zone command ac body m e =
+    let w = read-passes profile dir zone command ac body m e in
+    let a = again-of profile dir zone command ac body (w .0) in
+    subst (λ (x : Message). Again profile dir zone command ac body x) (same-message (a .0) m (sym (a .1) ∙ w .1)) (a .2)
 
 -- a message that was read has the fields that it was read from
 pub paper-of : (profile : Profile) (dir : Direction) (zone command ac : ℕ) (body : List ℕ) (m : Message) → readOf profile dir zone command ac body ≡ reading.Message m
-    → messagePaper profile m body ≡ paperOf zone command (answerKept dir ac) body
+    → messagePaper profile m body ≡ paperOf zone command (answerKept dir ac) (dataRead profile dir command ac body)
 paper-of profile dir zone command ac body m e = was-read profile dir zone command ac body m e .paper
 
--- a command's answer code is not looked at
-read-kept : (profile : Profile) (dir : Direction) (zone command ac : ℕ) (body : List ℕ)
-    → readOf profile dir zone command (answerKept dir ac) body ≡ readOf profile dir zone command ac body
-unfolding readOf
-read-kept profile Command zone command ac body = refl
-read-kept profile Answer zone command ac body = refl
+-- the frame that is written again reads as the message
+denied-load : (profile : Profile) (m : Message) (zone command code : ℕ) (body brought : List ℕ) → messagePaper profile m body ≡ paperOf zone command code brought
+    → deniedData m brought ≡ deniedData m body
+denied-load profile (message.Command s) zone command code body brought e = refl
+denied-load profile (message.Status s) zone command code body brought e = refl
+denied-load profile (message.Denied d) zone command code body brought e = sym (ap (λ (p : Paper). p .body) e)
+
+as-written : (profile : Profile) (dir : Direction) (zone command ac : ℕ) (body : List ℕ) (m : Message) → Again profile dir zone command ac body m
+    → ReadsAs profile dir (fieldsFrame profile dir zone command ac body) m body
+as-written profile dir zone command ac body m a =
+    let d = dataRead profile dir command ac body in
+    record {
+      message = ap (frameRead profile dir) (sym (a .frame)) ∙ subst (λ (x : Direction). frameRead profile x (messageFrame profile m body) ≡ frame.Message m) (a .way) (reads profile m body (a .rules));
+      load = ap (deniedData m) (frame-promise .brought dir zone command ac d .load) ∙ denied-load profile m zone command (answerKept dir ac) body d (a .paper);
+    }
+
+-- what is read and does not deny is judged
+judged-read : (profile : Profile) (dir : Direction) (zone command ac : ℕ) (body : List ℕ) → refuses (readRules profile dir zone command ac body) ≡ false → denies dir ac ≡ false
+    → refuses (judgeRules profile dir zone command body) ≡ false
+judged-read profile Command zone command ac body e d = e
+judged-read profile Answer zone command ac body e d = rw d at (pass-first (wrongCode ac) (cond (isDenial ac) (tooLong body ∷ []) (judgeRules profile Answer zone command body)) e .1)
+
+-- what is read is minus zero, or its data are as they came
+zero-or-kept : (profile : Profile) (dir : Direction) (zone command ac : ℕ) (body : List ℕ) → refuses (readRules profile dir zone command ac body) ≡ false
+    → IsMinusZero profile dir command ac body ⊎ (dataRead profile dir command ac body ≡ body)
+zero-or-kept profile dir zone command ac body e = go (denies dir ac) refl
+  where
+    go : (t : Bool) → denies dir ac ≡ t → IsMinusZero profile dir command ac body ⊎ (cond t body (map (normalIn (rowOf profile command)) body) ≡ body)
+    go true d = inr refl
+    go false d =
+        let p = judge-passes profile dir zone command body (judged-read profile dir zone command ac body e d) in
+        let there = p .lies .there in
+        by-data (p .row) there (zero-or-same (p .row) dir (row-tidy profile command (p .row) there dir) body (rw (p .long) (p .value)))
+      where
+        by-data : (row : Row) → rowOf profile command ≡ found.Row row → ((body ≡ 0x80 ∷ []) × (row .signed ≡ true)) ⊎ (map (normal row) body ≡ body)
+            → IsMinusZero profile dir command ac body ⊎ (map (normalIn (rowOf profile command)) body ≡ body)
+        by-data row there (inl (load, s)) = inl (record { row = row; there = there; zero = s; load = load; accepts = d })
+        by-data row there (inr same) = inr (ap (λ (f : Found). map (normalIn f) body) there ∙ same)
+
+read-long : (profile : Profile) (dir : Direction) (command ac : ℕ) (body : List ℕ) → length (dataRead profile dir command ac body) ≡ length body
+read-long profile dir command ac body = go (denies dir ac)
+  where
+    go : (t : Bool) → length (cond t body (map (normalIn (rowOf profile command)) body)) ≡ length body
+    go true = refl
+    go false = length-map body (normalIn (rowOf profile command))
+
+-- fields and data that are read as a message
+module _ (profile : Profile) (dir : Direction) (zone command ac : ℕ) (body : List ℕ) (m : Message) (e : readOf profile dir zone command ac body ≡ reading.Message m) where
+  kept : (IsMinusZero profile dir command ac body → ⊥) → fieldsFrame profile dir zone command ac body ≡ frameOf dir zone command ac body
+  kept other = go (zero-or-kept profile dir zone command ac body (read-passes profile dir zone command ac body m e .0))
+    where
+      go : IsMinusZero profile dir command ac body ⊎ (dataRead profile dir command ac body ≡ body) → fieldsFrame profile dir zone command ac body ≡ frameOf dir zone command ac body
+      go (inl z) = absurd (other z)
+      go (inr same) = ap (frameOf dir zone command ac) same
+
+  module _ (z : IsMinusZero profile dir command ac body) where
+    turned : fieldsFrame profile dir zone command ac body ≡ frameOf dir zone command ac (0x00 ∷ [])
+    turned =
+        let zero : normal (z .row) 0x80 ≡ 0x00 = minus-zero-promise .turned (z .row) (z .zero) in
+        ap (frameOf dir zone command ac) (rw (z .accepts, z .there, z .load, zero))
+
+    is-zero : content.contentOf dir (z .row) body ≡ Number (pos 0)
+    is-zero = ap (content.contentOf dir (z .row)) (z .load) ∙ zero-content (z .row) dir (z .zero)
+
+    zero-is : (d : Direction) → denies d ac ≡ false → content.contentOf d (z .row) body ≡ Number (pos 0) → messageOf profile d zone command ac body ≡ reading.Message (zeroMessage d zone command)
+    zero-is Command a c =
+        in-row (rowOf profile command) (z .row) _ (z .there) ∙ ap (λ (x : Content). reading.Message (message.Command (record { zone = zone; command = command; content = x }))) c
+    zero-is Answer a c =
+        rw a (in-row (rowOf profile command) (z .row) _ (z .there) ∙ ap (λ (x : Content). reading.Message (message.Status (record { zone = zone; command = command; content = x }))) c)
+
+    pub zero-promise : ZeroPromise profile dir zone command ac body z m e
+    zero-promise = record {
+      says = same-message m _ (sym (read-passes profile dir zone command ac body m e .1) ∙ zero-is dir (z .accepts) is-zero);
+      turned = turned;
+      back = ap (frameRead profile dir) (sym turned) ∙ as-written profile dir zone command ac body m (was-read profile dir zone command ac body m e) .message;
+    }
 
 fields-back : (profile : Profile) (dir : Direction) (buf : List ℕ) (at zone command ac : ℕ) (body : List ℕ) (n : ℕ)
-    → writeAnswered (readRules profile dir zone command ac body) buf at (frameOf dir zone command ac body) ≡ written.Bytes n
+    → writeAnswered (readRules profile dir zone command ac body) buf at (fieldsFrame profile dir zone command ac body) ≡ written.Bytes n
     → (m : Message) × (messageOf profile dir zone command ac body ≡ reading.Message m)
-    × ReadsBack profile dir (writeLeft (readRules profile dir zone command ac body) buf at (frameOf dir zone command ac body)) at n m body
+    × ReadsBack profile dir (writeLeft (readRules profile dir zone command ac body) buf at (fieldsFrame profile dir zone command ac body)) at n m body
 fields-back profile dir buf at zone command ac body n e =
     let rules = readRules profile dir zone command ac body in
-    let p = passed-message profile dir zone command ac body (write-passed rules buf at (frameOf dir zone command ac body) n e) in
-    let m = p .0 in (
+    let p = passed-message profile dir zone command ac body (write-passed rules buf at (fieldsFrame profile dir zone command ac body) n e) in
+    let m = p .0 in
+    let a = was-read profile dir zone command ac body m (p .1) in (
       m,
       p .2,
-      reads-back profile dir rules buf at zone command ac body m body n e
-          (record {
-            message = frame-reads profile dir zone command ac body ∙ ap fromReading (read-kept profile dir zone command ac body ∙ p .1);
-            load = ap (λ (l : List ℕ). deniedData m l) (frame-promise .brought dir zone command ac body .load);
-          }),
+      reads-back profile dir rules buf at zone command ac (dataRead profile dir command ac body) m body n e (as-written profile dir zone command ac body m a),
     )
 
 kept-in : (dir : Direction) (bytes : List ℕ) → answerKept dir (answerIn dir bytes) ≡ answerIn dir bytes
@@ -311,32 +399,53 @@ module _ (profile : Profile) (dir : Direction) (bytes : List ℕ) (m : Message) 
   data-is : dataOf dir bytes ≡ body
   data-is = rw (whole .0)
 
-  pub frame-brings : (fieldsOf dir bytes ≡ brings.Frame f) × (messagePaper profile m (dataOf dir bytes) ≡ paperOf (f .zone) (f .command) (f .answer) (dataOf dir bytes))
-  frame-brings = (rw (whole .0), rw data-is (goes .paper ∙ ap (λ (n : ℕ). paperOf (f .zone) (f .command) n body) (kept-in dir bytes)))
+  pub frame-brings : (fieldsOf dir bytes ≡ brings.Frame f)
+      × (messagePaper profile m (dataOf dir bytes) ≡ paperOf (f .zone) (f .command) (f .answer) (dataRead profile dir (f .command) (f .answer) (dataOf dir bytes)))
+  frame-brings = (
+    rw (whole .0),
+    rw data-is (goes .paper ∙ ap (λ (n : ℕ). paperOf (f .zone) (f .command) n (dataRead profile dir (f .command) (f .answer) body)) (kept-in dir bytes)),
+  )
 
-  bytes-are : messageFrame profile m body ≡ bytes
-  bytes-are = goes .frame ∙ sym (frame-again dir bytes (whole .0))
+  abbrev again : List ℕ
+  again = fieldsFrame profile dir (f .zone) (f .command) (f .answer) body
+
+  again-long : length (messageFrame profile m body) ≡ length bytes
+  again-long =
+      let d = dataRead profile dir (f .command) (f .answer) body in
+      ap length (goes .frame) ∙ frame-length dir (f .zone) (f .command) (f .answer) d ∙ ap (frameLength dir) (read-long profile dir (f .command) (f .answer) body)
+      ∙ sym (frame-length dir (f .zone) (f .command) (f .answer) body) ∙ ap length (sym (frame-again dir bytes (whole .0)))
 
   module _ (buf : List ℕ) (at : ℕ) (room : at + length bytes ≤ length buf) where
     put : (writeAnswered (writeRules profile m body) buf at (messageFrame profile m body) ≡ written.Bytes (length (messageFrame profile m body)))
         × (writeLeft (writeRules profile m body) buf at (messageFrame profile m body) ≡ placed buf at (messageFrame profile m body))
-    put = write-fits (writeRules profile m body) buf at (messageFrame profile m body) (goes .rules) (rw bytes-are room)
+    put = write-fits (writeRules profile m body) buf at (messageFrame profile m body) (goes .rules) (rw again-long room)
 
     abbrev brought : List ℕ
     brought = dataOf dir bytes
 
     said-again : writeAnswered (writeRules profile m brought) buf at (messageFrame profile m brought) ≡ written.Bytes (length bytes)
-    said-again = rw data-is (put .0 ∙ ap (λ (l : List ℕ). written.Bytes (length l)) bytes-are)
+    said-again = rw data-is (put .0 ∙ ap written.Bytes again-long)
 
-    left-again : writeLeft (writeRules profile m brought) buf at (messageFrame profile m brought) ≡ placed buf at bytes
-    left-again = rw data-is (put .1 ∙ ap (λ (l : List ℕ). placed buf at l) bytes-are)
+    left-again : writeLeft (writeRules profile m brought) buf at (messageFrame profile m brought) ≡ placed buf at again
+    left-again = rw data-is (put .1 ∙ ap (λ (l : List ℕ). placed buf at l) (goes .frame))
+
+    same-again : (BringsMinusZero profile dir bytes → ⊥) → writeLeft (writeRules profile m brought) buf at (messageFrame profile m brought) ≡ placed buf at bytes
+    same-again other =
+        left-again
+        ∙ ap (placed buf at) (kept profile dir (f .zone) (f .command) (f .answer) body m (whole .1) (λ z. other (rw data-is z)) ∙ sym (frame-again dir bytes (whole .0)))
+
+  pub zero-frame-promise : (z : BringsMinusZero profile dir bytes) → ZeroFramePromise profile dir bytes z m e
+  zero-frame-promise z =
+      let zero = zero-promise profile dir (f .zone) (f .command) (f .answer) body m (whole .1) (rw data-is at z) in
+      record { again = λ buf at room. left-again buf at room ∙ ap (placed buf at) (zero .turned); back = zero .back }
 
 pub message-promise : MessagePromise
 message-promise = record {
   message = message-back;
   fields = fields-back;
+  unchanged = kept;
   denied = λ profile other buf at d body. message-back other buf at (message.Denied d) body;
   way = λ profile dir bytes m e. goes profile dir bytes m e .way;
   said = said-again;
-  again = left-again;
+  again = λ profile dir bytes m e other buf at room. same-again profile dir bytes m e buf at room other;
 }

@@ -1,38 +1,35 @@
 -- A write after its checks: the raw write, with the rules of the message before it.
 use mathlib.Core.Path.{_≡_, refl, ap, sym, _∙_}
-use mathlib.Core.Bool.{Bool, true, false, cond, not, _&&_}
+use mathlib.Core.Bool.{Bool, true, false}
 use mathlib.Core.List.{List, [], _∷_, _++_}
-use Prim.Native.Nat.{ℕ, _+_, _≤_}
+use Prim.Native.Nat.{ℕ, _≤_}
 use native.Mathlib.Omega.{arith}
-use borrow.Author.Tests.{ltb-false, eqb-true}
-use lib.Dec.{eqb}
 use lib.ListN.{length}
-use Rattle.refusals.specs.Rule.{Rule, rule, ruled}
+use Rattle.refusals.specs.Rule.{Rule, ruled}
 use Rattle.lent.specs.Written.{noRoom, writeAnswered, writeLeft}
 use Rattle.frame.specs.Frame.{dataLimit, frameOf}
 use Rattle.lent.specs.Placed.{placed}
-use Rattle.fields.specs.Raw.{tooLong, rawRules}
+use Rattle.fields.specs.Raw.{rawRules}
 use Rattle.fields.proofs.Raws.{raw-short}
 use Rattle.frame.specs.declared.direction.Direction.{Direction}
-use Rattle.frame.specs.declared.direction.Direction.the-variants.{Command, Answer}
 use Rattle.lent.specs.declared.written.Written.the-variants as written
-use Rattle.refusals.proofs.Ruled.{refuses, firstNumber, ruled-append, was-accepted, refused-with, accepted-by, pass-first}
+use Rattle.refusals.proofs.Ruled.{refuses, firstNumber, ruled-append, refused-with, accepted-by}
 use Rattle.row.specs.declared.profile.Profile.{Profile}
 use Rattle.row.specs.declared.table.Row.{Row}
 use Rattle.row.specs.declared.table.Found.{Found}
-use Rattle.judging.specs.Judge.{hasOneByte, hasLength, valueRefusal, judgeRules, rowJudged}
+use Rattle.judging.specs.Judge.{hasLength, valueRefusal, rowJudged}
 use Rattle.message.specs.Content.{encodedOf, encodedData, sizeOf, isForm}
-use Rattle.message.specs.Message.{isDenial, wrongCode, readRules, readOf}
-use Rattle.message.specs.Write.{formRules, saidRules, saidIn, saidData}
+use Rattle.message.specs.Message.{readRules, readOf}
+use Rattle.message.specs.Write.{formRules, saidRules, saidIn, saidData, writeRules, messageFrame, fieldsFrame}
 use Rattle.message.specs.declared.content.Content.{Content}
 use Rattle.message.specs.declared.content.Encoded.{Encoded}
 use Rattle.message.specs.declared.content.Encoded.the-variants.{One, Two, NoCode}
 use Rattle.judging.specs.declared.judge.Judged.the-variants as judged
 use Rattle.message.specs.declared.read.Message.{Message}
 use Rattle.message.specs.declared.read.Reading.the-variants as reading
-use Rattle.message.proofs.Trip.{passed-message}
+use Rattle.message.proofs.Trip.{passed-message, read-passes, was-read}
 use Rattle.message.proofs.Written.{formJudged, form-goes}
-use Rattle.judging.proofs.Judges.{Lies, lies-goes, judged-lies, row-refused, judge-passes}
+use Rattle.judging.proofs.Judges.{Lies, lies-goes, judged-lies, row-refused}
 
 -- rules that refuse, or pass, before the rest
 module _ (ls ms : List Rule) (buf : List ℕ) (at : ℕ) (bytes : List ℕ) where
@@ -86,33 +83,15 @@ module _ (profile : Profile) (dir : Direction) (buf : List ℕ) (at zone command
   )
 
 -- fields and data that are read first
-pub length-few : (dir : Direction) (row : Row) (n : ℕ) → hasLength dir row n ≡ true → n ≤ 2
-length-few dir row n e = go (eqb n 2) (eqb n 1) refl refl e
-  where
-    go : (t u : Bool) → eqb n 2 ≡ t → eqb n 1 ≡ u → cond t (row .pair) (u && hasOneByte dir row) ≡ true → n ≤ 2
-    go true u f g h = omega (arith, eqb-true n 2 f)
-    go false true f g h = omega (arith, eqb-true n 1 g)
-    go false false f g h = let z : _≡_ {A = ℕ} 0 1 = cc in absurd (omega arith)
-
-judged-short : (profile : Profile) (dir : Direction) (zone command : ℕ) (body : List ℕ) → refuses (judgeRules profile dir zone command body) ≡ false → length body ≤ dataLimit
-judged-short profile dir zone command body e =
-    let p = judge-passes profile dir zone command body e in
-    omega (arith, length-few dir (p .row) (length body) (p .long))
-
-read-short : (profile : Profile) (dir : Direction) (zone command ac : ℕ) (body : List ℕ) → refuses (readRules profile dir zone command ac body) ≡ false → length body ≤ dataLimit
-read-short profile Command zone command ac body e = judged-short profile Command zone command body e
-read-short profile Answer zone command ac body e = go (isDenial ac) (pass-first (wrongCode ac) (cond (isDenial ac) (tooLong body ∷ []) (judgeRules profile Answer zone command body)) e .1)
-  where
-    go : (t : Bool) → refuses (cond t (tooLong body ∷ []) (judgeRules profile Answer zone command body)) ≡ false → length body ≤ dataLimit
-    go true f = ltb-false dataLimit (length body) (pass-first (tooLong body) [] f .0)
-    go false f = judged-short profile Answer zone command body f
-
 message-differs : (m : Message) (n : ℕ) → reading.Message m ≡ reading.Refused n → ⊥
 message-differs m n e = let z : _≡_ {A = ℕ} 0 1 = cc in omega arith
 
-module _ (profile : Profile) (dir : Direction) (buf : List ℕ) (at zone command ac : ℕ) (body bytes : List ℕ) where
+module _ (profile : Profile) (dir : Direction) (buf : List ℕ) (at zone command ac : ℕ) (body : List ℕ) where
   abbrev rules : List Rule
   rules = readRules profile dir zone command ac body
+
+  abbrev bytes : List ℕ
+  bytes = fieldsFrame profile dir zone command ac body
 
   abbrev nine : List Rule
   nine = noRoom buf at (length bytes) ∷ []
@@ -130,13 +109,18 @@ module _ (profile : Profile) (dir : Direction) (buf : List ℕ) (at zone command
       go true t = refused-first rules [] buf at bytes n t (number (sym (refused-with rules reading.Refused _ (firstNumber rules) t refl) ∙ e))
       go false t = let p = passed-message profile dir zone command ac body t in absurd (message-differs (p .0) n (sym (p .1) ∙ e))
 
+  -- they are written as the message that they are
   pub fields-message : (m : Message) → readOf profile dir zone command ac body ≡ reading.Message m
-      → (writeAnswered rules buf at bytes ≡ writeAnswered [] buf at bytes) × (writeLeft rules buf at bytes ≡ writeLeft [] buf at bytes) × (length body ≤ dataLimit)
-  unfolding readOf writeAnswered writeLeft
+      → (writeAnswered (writeRules profile m body) buf at (messageFrame profile m body) ≡ writeAnswered rules buf at bytes)
+      × (writeLeft (writeRules profile m body) buf at (messageFrame profile m body) ≡ writeLeft rules buf at bytes)
+  unfolding writeAnswered writeLeft
   fields-message m e =
-      let r = was-accepted rules reading.Refused _ (reading.Message m) e (λ n f. message-differs m n (sym f)) in
-      let w = accepted-first rules [] buf at bytes (r .0) in
-      (w .0, w .1, read-short profile dir zone command ac body (r .0))
+      let a = was-read profile dir zone command ac body m e in
+      let r = accepted-first rules [] buf at bytes (read-passes profile dir zone command ac body m e .0) in
+      let w = accepted-first (writeRules profile m body) [] buf at bytes (a .rules) in (
+        ap (writeAnswered (writeRules profile m body) buf at) (a .frame) ∙ w .0 ∙ sym (r .0),
+        ap (writeLeft (writeRules profile m body) buf at) (a .frame) ∙ w .1 ∙ sym (r .1),
+      )
 
 -- the three ends of a write that zone and row allow
 module _ (profile : Profile) (dir : Direction) (buf : List ℕ) (at zone command : ℕ) (content : Content) (row : Row) (e : rowJudged profile zone command ≡ judged.Legal row) where

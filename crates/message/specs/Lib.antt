@@ -10,4 +10,5 @@ pub mod FormPromise
 pub mod MessagePromise
 pub mod BenchPromise
 pub mod StepTablePromise
+pub mod ZeroTablePromise
 pub mod Computed

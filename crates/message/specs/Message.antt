@@ -1,13 +1,14 @@
 -- Document 01, 'Refusal numbers': "A message is read from the zone, command, answer code and data that a frame brings."
 use Prim.Native.Nat.{ℕ}
-use mathlib.Core.Bool.{Bool, cond, not, _&&_, _||_}
-use mathlib.Core.List.{List, [], _∷_}
+use mathlib.Core.Bool.{Bool, false, cond, not, _&&_, _||_}
+use mathlib.Core.List.{List, [], _∷_, map}
 use lib.Dec.{eqb, leb}
 use Rattle.refusals.specs.Rule.{Rule, rule, ruled}
 use Rattle.fields.specs.Fields.{isFrame, fieldsIn, dataIn}
 use Rattle.fields.specs.Raw.{tooLong}
 use Rattle.frame.specs.declared.direction.Direction.{Direction}
 use Rattle.frame.specs.declared.direction.Direction.the-variants.{Command, Answer}
+use Rattle.row.specs.MinusZero.{normalIn}
 use Rattle.row.specs.Table.{rowOf}
 use Rattle.row.specs.declared.profile.Profile.{Profile}
 use Rattle.row.specs.declared.table.Row.{Row}
@@ -61,6 +62,16 @@ messageOf profile Answer zone command ac body =
 unfoldable pub readOf : Profile → Direction → ℕ → ℕ → ℕ → List ℕ → Reading
 readOf profile dir zone command ac body =
     ruled (readRules profile dir zone command ac body) reading.Refused (messageOf profile dir zone command ac body)
+
+-- does the answer code deny; a command has none
+abbrev pub denies : Direction → ℕ → Bool
+denies Command ac = false
+denies Answer ac = isDenial ac
+
+-- the data as the message has them: document 02, C-14: "80 in these rows .. is written as 00 and reads back as 00"; of a denied one
+-- "as they came"
+abbrev pub dataRead : Profile → Direction → ℕ → ℕ → List ℕ → List ℕ
+dataRead profile dir command ac body = cond (denies dir ac) body (map (normalIn (rowOf profile command)) body)
 
 -- the data of a denied message, as they came; the other messages have theirs in their content
 abbrev pub deniedData : Message → List ℕ → List ℕ

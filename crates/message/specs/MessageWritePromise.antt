@@ -8,7 +8,6 @@ use Prim.Native.Nat.{ℕ}
 use lib.ListN.{length}
 use Rattle.refusals.specs.RulePromise.{FirstApplies, NoneApplies}
 use Rattle.lent.specs.WritePromise.{WritePromise}
-use Rattle.frame.specs.Frame.{frameOf}
 use Rattle.frame.specs.declared.direction.Direction.{Direction}
 use Rattle.row.specs.Table.{rowOf}
 use Rattle.row.specs.declared.profile.Profile.{Profile}
@@ -17,14 +16,14 @@ use Rattle.row.specs.declared.table.Found.the-variants as found
 use Rattle.judging.specs.Judge.{hasLength, rowRules, judgeRules}
 use Rattle.message.specs.Content.{sizeOf}
 use Rattle.message.specs.Message.{readRules}
-use Rattle.message.specs.Write.{saidRules, writeRules, saidData, messageFrame}
+use Rattle.message.specs.Write.{saidRules, writeRules, saidData, messageFrame, fieldsFrame}
 use Rattle.message.specs.declared.content.Content.{Content}
 use Rattle.message.specs.declared.read.Message.{Message}
 
 pub record MessageWritePromise : Type 0 where
   pub message : (profile : Profile) (buf : List ℕ) (at : ℕ) (m : Message) (body : List ℕ) → WritePromise (writeRules profile m body) buf at (messageFrame profile m body)
   pub fields : (profile : Profile) (dir : Direction) (buf : List ℕ) (at zone command ac : ℕ) (body : List ℕ)
-      → WritePromise (readRules profile dir zone command ac body) buf at (frameOf dir zone command ac body)
+      → WritePromise (readRules profile dir zone command ac body) buf at (fieldsFrame profile dir zone command ac body)
 
 -- Promise: "Writing checks the same": what reading the data of a content is refused with, writing the content is refused with.
 pub record SameChecksPromise (profile : Profile) (dir : Direction) (zone command : ℕ) (content : Content) : Type 0 where

@@ -14,7 +14,7 @@ use Rattle.row.specs.declared.table.Found.{Found}
 use Rattle.row.specs.declared.table.Found.the-variants as found
 use Rattle.judging.specs.Judge.{wrongLength, valueRules, rowRules}
 use Rattle.message.specs.Content.{encodedOf, encodedData, sizeOf, isForm}
-use Rattle.message.specs.Message.{isDenial}
+use Rattle.message.specs.Message.{isDenial, dataRead}
 use Rattle.message.specs.declared.content.Content.{Content}
 use Rattle.message.specs.declared.read.Message.{Message}
 use Rattle.message.specs.declared.read.Message.the-variants as message
@@ -55,3 +55,7 @@ abbrev pub messageFrame : Profile → Message → List ℕ → List ℕ
 messageFrame profile (message.Command s) body = frameOf Command (s .zone) (s .command) 0 (saidData profile (s .command) (s .content))
 messageFrame profile (message.Status s) body = frameOf Answer (s .zone) (s .command) 0 (saidData profile (s .command) (s .content))
 messageFrame profile (message.Denied d) body = frameOf Answer (d .zone) (d .command) (d .answer) body
+
+-- the frame of the message that fields and data are
+abbrev pub fieldsFrame : Profile → Direction → ℕ → ℕ → ℕ → List ℕ → List ℕ
+fieldsFrame profile dir zone command ac body = frameOf dir zone command ac (dataRead profile dir command ac body)

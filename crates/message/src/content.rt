@@ -119,7 +119,7 @@ fn is_off(row: Row, code: u8) -> bool
 }
 
 // The data that say something in a row.
-pub(crate) fn encode(row: Row, content: Content) -> Encoded
+pub fn encode(row: Row, content: Content) -> Encoded
     ensures { λ r. ⌜ r ≡ encodedOf row content ⌝ }
 {
     match content {

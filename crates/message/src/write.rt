@@ -21,7 +21,7 @@ ghost use Rattle.fields.specs.Raw.{tooLong, rawRules};
 ghost use Rattle.frame.specs.declared.direction.Direction.the-variants as direction;
 ghost use Rattle.message.specs.Content.{encodedData};
 ghost use Rattle.message.specs.Message.{readRules};
-ghost use Rattle.message.specs.Write.{saidRules, saidData, notDenied, writeRules, messageFrame};
+ghost use Rattle.message.specs.Write.{saidRules, saidData, notDenied, writeRules, messageFrame, fieldsFrame};
 ghost use Rattle.lent.specs.Written.{writeAnswered, writeLeft};
 ghost use Rattle.message.specs.Computed.{judgedWritten, readingWritten};
 
@@ -75,8 +75,8 @@ pub fn write_message(
     }
 }
 
-// Writes fields and data that are a message, with the numbers that reading them would give, then 9. The
-// answer code of a command is not looked at.
+// Writes fields and data as the message that they are, with the numbers that reading them would give, then 9:
+// minus zero is written as 00. The answer code of a command is not looked at.
 pub fn write_fields(
     profile: Profile,
     direction: Direction,
@@ -87,14 +87,14 @@ pub fn write_fields(
     answer: u8,
     body: &[u8],
 ) -> Written
-    ensures answers { λ r. ⌜ r ≡ writeAnswered (readRules profile direction zone command answer (now (body .entry))) (now (buf .entry)) at (frameOf direction zone command answer (now (body .entry))) ⌝ }
-    ensures leaves { λ _. ⌜ now (buf .exit) ≡ writeLeft (readRules profile direction zone command answer (now (body .entry))) (now (buf .entry)) at (frameOf direction zone command answer (now (body .entry))) ⌝ }
+    ensures answers { λ r. ⌜ r ≡ writeAnswered (readRules profile direction zone command answer (now (body .entry))) (now (buf .entry)) at (fieldsFrame profile direction zone command answer (now (body .entry))) ⌝ }
+    ensures leaves { λ _. ⌜ now (buf .exit) ≡ writeLeft (readRules profile direction zone command answer (now (body .entry))) (now (buf .entry)) at (fieldsFrame profile direction zone command answer (now (body .entry))) ⌝ }
 {
     let reading = read_message(profile, direction, zone, command, answer, body);
-    let Reading::Message(_) = reading else {
+    let Reading::Message(message) = reading else {
         return reading_written(reading);
     };
-    write_raw(direction, buf, at, zone, command, answer, body)
+    write_message(profile, buf, at, message, body)
 }
 
 // Only 5, then 3 for data over 255, then 9: what a unit denies is not checked.
