@@ -1,9 +1,11 @@
 -- Document 01, 'Commands of the two profiles': "† marks a sheet row: its legal sheet values are the setting codes, without request,
--- steps or toggle"; 'Sheet, sheet file and run': "A sheet comes as a list of lines, each a zone, a command and a value".
+-- steps or toggle"; 'Sheet, sheet file and run': "A sheet comes as a list of lines, each a zone, a command and a value"; document 02, C-14:
+-- "sheets refuse 80 with 7 as before".
 use Prim.Native.Nat.{ℕ}
-use mathlib.Core.Bool.{Bool, false, _&&_, _||_}
+use mathlib.Core.Bool.{Bool, false, not, _&&_, _||_}
 use mathlib.Core.List.{List, [], _∷_}
 use lib.Dec.{eqb}
+use Rattle.row.specs.MinusZero.{isMinusZero}
 use Rattle.row.specs.declared.profile.Profile.{Profile}
 use Rattle.row.specs.declared.table.Row.{Row}
 use Rattle.judging.specs.Judge.{isSetting, rowJudged}
@@ -12,7 +14,7 @@ use Rattle.judging.specs.declared.judge.Judged.the-variants as judged
 use Rattle.sheet.specs.declared.line.Line.{Line}
 
 abbrev pub isSheetValue : Row → ℕ → Bool
-isSheetValue row value = row .sheet && isSetting row value
+isSheetValue row value = row .sheet && (not (isMinusZero row value) && isSetting row value)
 
 -- the value is a sheet value of the row that was found for its zone
 abbrev pub legalIn : Judged → ℕ → Bool

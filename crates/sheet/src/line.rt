@@ -2,6 +2,7 @@ use judging::judge::Judged;
 use judging::judge::is_setting;
 use judging::judge::judge_row;
 use row::profile::Profile;
+use row::signed::is_minus_zero;
 use row::table::Row;
 ghost use mathlib.Core.Path.{_≡_};
 ghost use Rattle.sheet.specs.Line.{isSheetValue, isLegal, sameCell};
@@ -13,7 +14,8 @@ pub struct Line {
     pub value: u8,
 }
 
-// Whether a line is legal for a sheet: a zone of the profile and the row, a sheet row, one of its setting codes.
+// Whether a line is legal for a sheet: a zone of the profile and the row, a sheet row, one of its setting codes
+// but not minus zero.
 pub fn is_legal(profile: Profile, line: Line) -> bool
     ensures { λ r. ⌜ r ≡ isLegal profile line ⌝ }
 {
@@ -28,6 +30,9 @@ pub fn is_sheet_value(row: Row, value: u8) -> bool
     ensures { λ r. ⌜ r ≡ isSheetValue row value ⌝ }
 {
     if !row.sheet {
+        return false;
+    }
+    if is_minus_zero(row, value) {
         return false;
     }
     is_setting(row, value)

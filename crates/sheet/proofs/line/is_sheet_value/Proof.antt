@@ -1,7 +1,5 @@
 -- `sheet::line::is_sheet_value` meets its contract.
-use mathlib.Core.Bool.{Bool, _&&_}
-use Rattle.judging.specs.Judge.{isSetting}
-use mathlib.Core.Path.{sym, _∙_, ap}
+use mathlib.Core.Path.{sym, _∙_}
 use borrow.Author.Tests.{not-true, not-false}
 use borrow.Author.Needs.{needs}
 use Rattle.sheet.proofs.line.is_sheet_value.Statement.{statement}
@@ -10,13 +8,21 @@ use Rattle.sheet.proofs.line.is_sheet_value.Tie as tie
 returns : tie.Need-returns
 returns c = rw (not-true (c .before .before .args .row .sheet) (c .if1 .taken))
 
-is-setting-requires : tie.Need-is-setting-requires
-is-setting-requires c κs = search needs
+is-minus-zero-requires : tie.Need-is-minus-zero-requires
+is-minus-zero-requires c κs = search needs
 
 returns-2 : tie.Need-returns-2
 returns-2 c =
-    let g = c .before .before .before .args in
-    c .is-setting .ensures ∙ sym (ap (λ (t : Bool). t && isSetting (g .row) (g .value)) (not-false (g .row .sheet) (c .before .if1 .left)))
+    let sheet = not-false (c .before .before .before .before .args .row .sheet) (c .before .before .if1 .left) in
+    rw (sheet, sym (c .before .is-minus-zero .ensures) ∙ c .if2 .taken)
+
+is-setting-requires : tie.Need-is-setting-requires
+is-setting-requires c κs = search needs
+
+returns-3 : tie.Need-returns-3
+returns-3 c =
+    let sheet = not-false (c .before .before .before .before .before .args .row .sheet) (c .before .before .before .if1 .left) in
+    rw (sheet, sym (c .before .before .is-minus-zero .ensures) ∙ c .before .if2 .left) (c .is-setting .ensures)
 
 pub is-sheet-value-spec : {M : Type 1} → statement M
-is-sheet-value-spec = tie.close (tie.spec returns is-setting-requires returns-2)
+is-sheet-value-spec = tie.close (tie.spec returns is-minus-zero-requires returns-2 is-setting-requires returns-3)
