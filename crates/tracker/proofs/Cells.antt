@@ -1,13 +1,14 @@
 -- A cell lies within a tracker, and is of one zone and row.
 use mathlib.Core.Path.{_≡_, refl, ap, sym, _∙_}
-use mathlib.Core.Bool.{Bool, true, false, not, _||_}
+use mathlib.Core.Bool.{Bool, true, false, not, _&&_, _||_}
 use mathlib.Core.List.{List, [], _∷_, map}
 use mathlib.Core.Logic.{_⊎_, inl, inr}
 use Prim.Native.Nat.{ℕ, _≤_, _<_}
 use native.Mathlib.Omega.{arith}
 use borrow.Author.Tests.{eqb-true, eqb-false, ltb-true, ltb-false}
 use lib.Dec.{eqb, ltb}
-use lib.ListN.{length, getD}
+use lib.ListN.{getD}
+use Rattle.row.specs.MinusZero.{isMinusZero}
 use Rattle.row.specs.Profile.{letterOf, zonesOf}
 use Rattle.row.specs.Table.{table, rowCount, rowOf}
 use Rattle.row.specs.declared.profile.Profile.{Profile}
@@ -123,10 +124,5 @@ legal-cell profile l e = go (rowJudged profile (l .zone) (l .command)) refl e
     go (judged.Legal row) f legal =
         let there = stands profile (l .zone) (l .command) row f .there in
         let test = row-passes (λ r. not (r .sheet) || not (r .pair)) all-single profile (l .command) row there in
-        (row, (f, single (row .sheet) (row .pair) test (both (row .sheet) (isSetting row (l .value)) legal .0)))
+        (row, (f, single (row .sheet) (row .pair) test (both (row .sheet) (not (isMinusZero row (l .value)) && isSetting row (l .value)) legal .0)))
     go (judged.Refused n) f legal = let z : _≡_ {A = ℕ} 0 1 = cc in absurd (omega arith)
-
--- no data have no first byte
-pub none-first : (xs : List ℕ) → length xs ≡ 0 → 0 ≡ getD xs 0 0
-none-first [] e = refl
-none-first (x ∷ xs) e = absurd (omega (arith, e))

@@ -15,7 +15,8 @@ use Rattle.row.specs.declared.table.Row.{Row}
 use Rattle.judging.specs.Judge.{rowJudged}
 use Rattle.judging.specs.declared.judge.Judged.{Judged}
 use Rattle.judging.specs.declared.judge.Judged.the-variants as judged
-use Rattle.message.specs.Message.{readOf}
+use Rattle.message.specs.Message.{readOf, dataRead}
+use Rattle.message.specs.declared.content.Content.{Content}
 use Rattle.message.specs.declared.read.Said.{Said}
 use Rattle.message.specs.declared.read.Denial.{Denial}
 use Rattle.message.specs.declared.read.Message.the-variants as message
@@ -24,7 +25,7 @@ use Rattle.message.specs.declared.read.Reading.the-variants as reading
 use Rattle.tracker.specs.Cell.{cellCount, cellOf}
 use Rattle.tracker.specs.CellPromise.{HasCell}
 use Rattle.tracker.specs.Tracker.{knownState, freshTracker, keptIn}
-use Rattle.tracker.specs.Feed.{madeKnown, answerFed, BroughtAnswer, answersFed}
+use Rattle.tracker.specs.Feed.{firstByte, madeKnown, answerFed, BroughtAnswer, answersFed}
 use Rattle.tracker.specs.FeedPromise.{Whole, FeedsPromise}
 use Rattle.tracker.specs.HistoryPromise.{IsStatus, Last, HistoryPromise}
 use Rattle.tracker.specs.declared.tracker.Tracker.{Tracker}
@@ -35,11 +36,11 @@ use Rattle.tracker.proofs.Feeds.{settle, after-status, feed-promise}
 abbrev pub Fit : Profile → Tracker → Type 0
 Fit profile t = (t .profile ≡ profile) × Whole t
 
-fit-put : (profile : Profile) (t : Tracker) (zone : ℕ) (j : Judged) (b : ℕ) → Fit profile t → Fit profile (madeKnown t zone j b)
-fit-put profile t zone (judged.Legal row) b f =
-    elim (row .pair) as (λ p. Fit profile (cond p t (record { profile = t .profile; states = set (t .states) (cellOf row zone) knownState; values = set (t .values) (cellOf row zone) b })))
-    [ true ↦ f | false ↦ (f .0, (length-set (t .states) (cellOf row zone) knownState ∙ f .1 .0, length-set (t .values) (cellOf row zone) b ∙ f .1 .1)) ]
-fit-put profile t zone (judged.Refused n) b f = f
+fit-put : (profile : Profile) (t : Tracker) (zone : ℕ) (j : Judged) (c : Content) → Fit profile t → Fit profile (madeKnown t zone j c)
+fit-put profile t zone (judged.Legal row) c f =
+    elim (row .pair) as (λ p. Fit profile (cond p t (record { profile = t .profile; states = set (t .states) (cellOf row zone) knownState; values = set (t .values) (cellOf row zone) (firstByte row c) })))
+    [ true ↦ f | false ↦ (f .0, (length-set (t .states) (cellOf row zone) knownState ∙ f .1 .0, length-set (t .values) (cellOf row zone) (firstByte row c) ∙ f .1 .1)) ]
+fit-put profile t zone (judged.Refused n) c f = f
 
 abbrev next : Tracker → BroughtAnswer → Tracker
 next t a = answerFed t (a .zone) (a .command) (a .answer) (a .body) .tracker
@@ -47,7 +48,7 @@ next t a = answerFed t (a .zone) (a .command) (a .answer) (a .body) .tracker
 pub fit-next : (profile : Profile) (t : Tracker) (a : BroughtAnswer) → Fit profile t → Fit profile (next t a)
 fit-next profile t a f =
     settle t (a .zone) (a .command) (a .answer) (a .body) (Fit profile) f
-    (λ s e. subst (Fit profile) (sym (after-status t (a .zone) (a .command) (a .answer) (a .body) s e)) (fit-put profile t (a .zone) (rowJudged (t .profile) (a .zone) (a .command)) (getD (a .body) 0 0) f))
+    (λ s e. subst (Fit profile) (sym (after-status t (a .zone) (a .command) (a .answer) (a .body) s e)) (fit-put profile t (a .zone) (rowJudged (t .profile) (a .zone) (a .command)) (s .content) f))
 
 pub fit-all : (profile : Profile) (t : Tracker) (fs : List BroughtAnswer) → Fit profile t → Fit profile (answersFed t fs)
 unfolding answersFed
@@ -96,6 +97,9 @@ module _ (profile : Profile) (zone command : ℕ) where
   abbrev reads : Profile → BroughtAnswer → Reading
   reads p a = readOf p Answer (a .zone) (a .command) (a .answer) (a .body)
 
+  abbrev shown : Profile → BroughtAnswer → List ℕ
+  shown p a = dataRead p Answer (a .command) (a .answer) (a .body)
+
   -- an answer that is no status of the zone and command leaves what is known of them
   step-stays : (t : Tracker) (a : BroughtAnswer) → t .profile ≡ profile → (IsStatus profile zone command a → ⊥) → keptIn (next t a) zone command ≡ keptIn t zone command
   step-stays t a p none =
@@ -110,7 +114,7 @@ module _ (profile : Profile) (zone command : ℕ) where
   -- in a row and zone that have a cell
   module _ (row : Row) (has : HasCell profile zone command row) where
     abbrev Knows : Tracker → BroughtAnswer → Type 0
-    Knows t a = (b : ℕ) × (a .body ≡ b ∷ []) × (keptIn (next t a) zone command ≡ Value b)
+    Knows t a = (b : ℕ) × (shown profile a ≡ b ∷ []) × (keptIn (next t a) zone command ≡ Value b)
 
     -- a status makes its byte known
     step-known : (t : Tracker) (a : BroughtAnswer) → Fit profile t → IsStatus profile zone command a → Knows t a
@@ -118,7 +122,7 @@ module _ (profile : Profile) (zone command : ℕ) where
         let here : HasCell (t .profile) (a .zone) (a .command) row = rw (f .0, w .0, w .1) has in
         let read : reads (t .profile) a ≡ reading.Message (message.Status (w .2 .0)) = ap (λ (q : Profile). reads q a) (f .0) ∙ w .2 .1 in
         let k = feed-promise t (a .zone) (a .command) (a .answer) (a .body) .known (f .1) (w .2 .0) read row here in
-        (k .0, k .1, ap (λ (z : ℕ). keptIn (next t a) z command) (sym (w .0)) ∙ ap (λ (c : ℕ). keptIn (next t a) (a .zone) c) (sym (w .1)) ∙ k .2)
+        (k .0, ap (λ (q : Profile). shown q a) (sym (f .0)) ∙ k .1, ap (λ (z : ℕ). keptIn (next t a) z command) (sym (w .0)) ∙ ap (λ (c : ℕ). keptIn (next t a) (a .zone) c) (sym (w .1)) ∙ k .2)
 
     fit-fresh : Fit profile (freshTracker profile)
     fit-fresh = (refl, (refl, refl))

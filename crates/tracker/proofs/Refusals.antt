@@ -4,7 +4,6 @@ use mathlib.Core.Bool.{Bool, true, false, cond}
 use mathlib.Core.List.{List, [], _∷_}
 use Prim.Native.Nat.{ℕ, _≤_}
 use native.Mathlib.Omega.{arith}
-use lib.ListN.{getD}
 use Rattle.lists.specs.Each.{Each}
 use Rattle.refusals.specs.Rule.{Rule}
 use Rattle.fields.specs.Raw.{tooLong}
@@ -37,12 +36,12 @@ rules-numbered profile zone command ac body = go (isDenial ac)
       judge-numbers OneToFive (omega arith, omega arith) (omega arith, omega arith) (omega arith, omega arith) profile Answer ((omega arith, omega arith), tt) zone command body,
     )
 
--- a refused answer, whatever the first byte of its data is
-kept : (t : Tracker) (r : Reading) (b : ℕ) (body : List ℕ) → (readingNumber r ≡ 0 → ⊥) → (told t r b ≡ t) × (readingPaper (told t r b .profile) r body ≡ zeroPaper)
-kept t (reading.Message (message.Command s)) b body e = absurd (e refl)
-kept t (reading.Message (message.Status s)) b body e = absurd (e refl)
-kept t (reading.Message (message.Denied d)) b body e = absurd (e refl)
-kept t (reading.Refused n) b body e = (refl, refl)
+-- a refused answer
+kept : (t : Tracker) (r : Reading) (body : List ℕ) → (readingNumber r ≡ 0 → ⊥) → (told t r ≡ t) × (readingPaper (told t r .profile) r body ≡ zeroPaper)
+kept t (reading.Message (message.Command s)) body e = absurd (e refl)
+kept t (reading.Message (message.Status s)) body e = absurd (e refl)
+kept t (reading.Message (message.Denied d)) body e = absurd (e refl)
+kept t (reading.Refused n) body e = (refl, refl)
 
 pub feed-refusal-promise : (t : Tracker) (zone command ac : ℕ) (body : List ℕ) → FeedRefusalPromise t zone command ac body
 feed-refusal-promise t zone command ac body = record {
@@ -50,5 +49,5 @@ feed-refusal-promise t zone command ac body = record {
   numbered = λ n e.
       first-number OneToFive (readRules (t .profile) Answer zone command ac body) (rules-numbered (t .profile) zone command ac body) n
       (order-promise (t .profile) Answer zone command ac body .applies n e);
-  kept = kept t (answerRead t zone command ac body) (getD body 0 0) body;
+  kept = kept t (answerRead t zone command ac body) body;
 }

@@ -1,5 +1,5 @@
 -- Promise: document 01, 'Tracker': "A status answer, one accepted with Ac 00, makes its one cell known; a denied message, S 0F and
--- a refused frame change nothing." A status is known by its one byte, every other row and zone is known as before, and the profile
+-- a refused frame change nothing." A status is known by its one byte, 80 as 00 in the rows of document 02's C-14; every other row and zone is known as before, and the profile
 -- is the one that the tracker was made for.
 use mathlib.Core.Path.{_≡_}
 use mathlib.Core.List.{List, [], _∷_}
@@ -7,7 +7,7 @@ use Prim.Native.Nat.{ℕ}
 use lib.ListN.{length}
 use Rattle.frame.specs.declared.direction.Direction.the-variants as direction
 use Rattle.row.specs.declared.table.Row.{Row}
-use Rattle.message.specs.Message.{readOf}
+use Rattle.message.specs.Message.{readOf, dataRead}
 use Rattle.message.specs.declared.read.Said.{Said}
 use Rattle.message.specs.declared.read.Denial.{Denial}
 use Rattle.message.specs.declared.read.Message.the-variants as message
@@ -33,7 +33,7 @@ pub record FeedPromise (t : Tracker) (zone command ac : ℕ) (body : List ℕ) :
   pub left-out : ((row : Row) → HasCell (t .profile) zone command row → ⊥) → answerFed t zone command ac body .tracker ≡ t
   pub known : Whole t → (s : Said) → answerRead t zone command ac body ≡ reading.Message (message.Status s)
       → (row : Row) → HasCell (t .profile) zone command row
-      → (b : ℕ) × (body ≡ b ∷ []) × (keptIn (answerFed t zone command ac body .tracker) zone command ≡ Value b)
+      → (b : ℕ) × (dataRead (t .profile) direction.Answer command ac body ≡ b ∷ []) × (keptIn (answerFed t zone command ac body .tracker) zone command ≡ Value b)
   pub others : (z c : ℕ) → ((z ≡ zone) × (c ≡ command) → ⊥) → keptIn (answerFed t zone command ac body .tracker) z c ≡ keptIn t z c
   pub profile : answerFed t zone command ac body .tracker .profile ≡ t .profile
 

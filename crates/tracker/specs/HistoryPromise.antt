@@ -8,7 +8,7 @@ use Rattle.lists.specs.Each.{Each}
 use Rattle.frame.specs.declared.direction.Direction.the-variants as direction
 use Rattle.row.specs.declared.profile.Profile.{Profile}
 use Rattle.row.specs.declared.table.Row.{Row}
-use Rattle.message.specs.Message.{readOf}
+use Rattle.message.specs.Message.{readOf, dataRead}
 use Rattle.message.specs.declared.read.Said.{Said}
 use Rattle.message.specs.declared.read.Message.the-variants as message
 use Rattle.message.specs.declared.read.Reading.the-variants as reading
@@ -23,7 +23,7 @@ IsStatus profile zone command a =
     (a .zone ≡ zone) × (a .command ≡ command)
     × ((s : Said) × (readOf profile direction.Answer (a .zone) (a .command) (a .answer) (a .body) ≡ reading.Message (message.Status s)))
 
--- the last of some answers that is, with its one byte
+-- the last of some answers that is, with its one byte; document 02, C-14: 80 shows 00
 pub record Last (profile : Profile) (zone command : ℕ) (fs : List BroughtAnswer) (b : ℕ) : Type 0 where
   pub before : List BroughtAnswer
   pub answer : BroughtAnswer
@@ -31,7 +31,7 @@ pub record Last (profile : Profile) (zone command : ℕ) (fs : List BroughtAnswe
   pub whole : fs ≡ before ++ answer ∷ later
   pub status : IsStatus profile zone command answer
   pub none : Each (λ (a : BroughtAnswer). IsStatus profile zone command a → ⊥) later
-  pub byte : answer .body ≡ b ∷ []
+  pub byte : dataRead profile direction.Answer (answer .command) (answer .answer) (answer .body) ≡ b ∷ []
 
 -- of a zone and command that have a cell
 pub record HistoryPromise (profile : Profile) (zone command : ℕ) (row : Row) (has : HasCell profile zone command row) (fs : List BroughtAnswer) : Type 0 where

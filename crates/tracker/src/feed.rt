@@ -4,14 +4,17 @@ use crate::tracker::Tracker;
 use frame::direction::Direction;
 use judging::judge::Judged;
 use judging::judge::judge_row;
+use message::content::Content;
+use message::content::Encoded;
+use message::content::encode;
 use message::read::Message;
 use message::read::Reading;
 use message::read::read_message;
+use row::table::Row;
 ghost use mathlib.Core.Path.{_≡_};
-ghost use lib.ListN.{getD};
 ghost use Rattle.judging.specs.Judge.{rowJudged};
 ghost use Rattle.message.specs.declared.read.Reading.the-variants as reading;
-ghost use Rattle.tracker.specs.Feed.{madeKnown, told, answerFed};
+ghost use Rattle.tracker.specs.Feed.{firstByte, madeKnown, told, answerFed};
 
 // A tracker once it was fed, and what was fed: the message, or the number of the refusal.
 pub struct AnswerFed {
@@ -31,8 +34,7 @@ pub fn after_answer(tracker: Tracker, zone: u8, command: u8, answer: u8, body: &
             reading: reading,
         };
     };
-    let byte = first_byte(body);
-    let next = with_message(tracker, message, byte);
+    let next = with_message(tracker, message);
     AnswerFed {
         tracker: next,
         reading: Reading::Message(message),
@@ -40,19 +42,22 @@ pub fn after_answer(tracker: Tracker, zone: u8, command: u8, answer: u8, body: &
 }
 
 // A status makes its one cell known; a denied message changes nothing.
-fn with_message(tracker: Tracker, message: Message, byte: u8) -> Tracker
-    ensures { λ r. ⌜ r ≡ told tracker (reading.Message message) byte ⌝ }
+fn with_message(tracker: Tracker, message: Message) -> Tracker
+    ensures { λ r. ⌜ r ≡ told tracker (reading.Message message) ⌝ }
 {
     match message {
         Message::Command(_) => tracker,
-        Message::Status(said) => with_status(tracker, said.zone, said.command, byte),
+        Message::Status(said) => {
+            let content = said.content;
+            with_status(tracker, said.zone, said.command, content)
+        }
         Message::Denied(_) => tracker,
     }
 }
 
-// The cell of a zone and row holds a byte; a row of pairs has none.
-fn with_status(tracker: Tracker, zone: u8, command: u8, byte: u8) -> Tracker
-    ensures { λ r. ⌜ r ≡ madeKnown tracker zone (rowJudged (tracker .profile) zone command) byte ⌝ }
+// The cell of a zone and row holds the byte of what was said; a row of pairs has none.
+fn with_status(tracker: Tracker, zone: u8, command: u8, content: Content) -> Tracker
+    ensures { λ r. ⌜ r ≡ madeKnown tracker zone (rowJudged (tracker .profile) zone command) content ⌝ }
 {
     let profile = tracker.profile;
     let judged = judge_row(profile, zone, command);
@@ -65,16 +70,17 @@ fn with_status(tracker: Tracker, zone: u8, command: u8, byte: u8) -> Tracker
     let at = cell_of(row, zone);
     let mut next = tracker;
     next.states[at] = KNOWN;
-    next.values[at] = byte;
+    next.values[at] = first_byte(row, content);
     next
 }
 
-// The first byte of some data; 0 where there is none.
-fn first_byte(body: &[u8]) -> u8
-    ensures { λ r. ⌜ r ≡ getD (now (body .entry)) 0 0 ⌝ }
+// The first byte of the data that say something in a row: it is never minus zero; 0 where there is none.
+fn first_byte(row: Row, content: Content) -> u8
+    ensures { λ r. ⌜ r ≡ firstByte row content ⌝ }
 {
-    if body.len() == 0 {
-        return 0;
+    match encode(row, content) {
+        Encoded::One(byte) => byte,
+        Encoded::Two(byte, _) => byte,
+        Encoded::NoCode => 0,
     }
-    body[0]
 }

@@ -15,14 +15,11 @@ enum-told c = search needs
 returns : tie.Need-returns
 returns c = rw (← c .before .before .read-message .ensures, c .enum-told .given .1)
 
-first-byte-requires : tie.Need-first-byte-requires
-first-byte-requires c κs = search needs
-
 with-message-requires : tie.Need-with-message-requires
 with-message-requires c κs = search needs
 
 returns-2 : tie.Need-returns-2
-returns-2 c = rw (← c .before .before .before .before .before .read-message .ensures, c .before .before .before .reading .given .1, c .with-message .ensures, c .before .first-byte .ensures)
+returns-2 c = rw (← c .before .before .before .before .read-message .ensures, c .before .before .reading .given .1, c .with-message .ensures)
 
 pub after-answer-spec : {M : Type 1} → statement M
 after-answer-spec =
@@ -32,6 +29,5 @@ after-answer-spec =
     enum-known-reading
     enum-told
     returns
-    first-byte-requires
     with-message-requires
     returns-2)

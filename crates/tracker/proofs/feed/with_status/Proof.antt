@@ -3,6 +3,7 @@ use mathlib.Core.Path.{sym, _∙_}
 use native.Mathlib.Omega.{arith}
 use borrow.Author.Needs.{needs}
 use Rattle.tracker.proofs.Cells.{stands, within}
+use Rattle.tracker.proofs.Feeds.{made}
 use Rattle.tracker.proofs.feed.with_status.Statement.{statement}
 use Rattle.tracker.proofs.feed.with_status.Tie as tie
 
@@ -29,13 +30,19 @@ element-write-next c =
     let h = within _ _ _ (c .before .before .before .judged .given .0 .0) (sym (c .before .before .before .before .before .judge-row .ensures) ∙ c .before .before .before .judged .given .1) in
     omega (arith, h, c .cell-of .ensures)
 
+first-byte-requires : tie.Need-first-byte-requires
+first-byte-requires c κs = search needs
+
 element-write-next-2 : tie.Need-element-write-next-2
 element-write-next-2 c =
-    let h = within _ _ _ (c .before .before .before .judged .given .0 .0) (sym (c .before .before .before .before .before .judge-row .ensures) ∙ c .before .before .before .judged .given .1) in
-    omega (arith, h, c .cell-of .ensures)
+    let h = within _ _ _ (c .before .before .before .before .judged .given .0 .0) (sym (c .before .before .before .before .before .before .judge-row .ensures) ∙ c .before .before .before .before .judged .given .1) in
+    omega (arith, h, c .before .cell-of .ensures)
 
 returns-3 : tie.Need-returns-3
-returns-3 c = rw (← c .before .before .before .before .before .judge-row .ensures, c .before .before .before .judged .given .1, c .before .if1 .left, c .cell-of .ensures)
+returns-3 c =
+    rw (← c .before .before .before .before .before .before .judge-row .ensures, c .before .before .before .before .judged .given .1, c .before .cell-of .ensures, c .first-byte .ensures)
+    (let g = c .before .before .before .before .before .before .before .args in
+    sym (made (g .tracker) (g .zone) (c .before .before .before .before .judged .given .0 .0) (g .content) (c .before .before .if1 .left)))
 
 pub with-status-spec : {M : Type 1} → statement M
 with-status-spec =
@@ -48,5 +55,6 @@ with-status-spec =
     returns-2
     cell-of-requires
     element-write-next
+    first-byte-requires
     element-write-next-2
     returns-3)
