@@ -1,10 +1,11 @@
--- Settings are told apart.
+-- Settings are told apart, and compared.
+use Prim.Native.Nat.{ℕ}
 use mathlib.Core.Path.{_≡_, refl, ap, fun-ext}
 use mathlib.Core.Bool.{Bool, true, false, cond}
 use borrow.Author.Tests.{eq-eqb, eqb-true}
 use lib.Dec.{eqb}
 use Rattle.lists.proofs.Tests.{both}
-use Rattle.unit.specs.Unit.{Setting, value, input, current, Settings, sameSetting, put}
+use Rattle.unit.specs.Unit.{Setting, value, input, current, Settings, sameSetting, put, Unit, compared, Holds}
 use Rattle.unit.proofs.Tests.{clash}
 
 pub is-cell : (x y : Setting) → sameSetting x y ≡ true → x ≡ y
@@ -32,3 +33,7 @@ put-same s x = fun-ext (λ y. go y (sameSetting x y) refl)
     go : (y : Setting) (t : Bool) → sameSetting x y ≡ t → cond t (s x) (s y) ≡ s y
     go y true e = ap s (is-cell x y e)
     go y false e = refl
+
+-- the same value is held
+pub holds-same : (u : Unit) (x : Setting) (v : ℕ) → u .settings x ≡ v → Holds u x v
+holds-same u x v e = ap (compared (u .profile) x) e

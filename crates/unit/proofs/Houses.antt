@@ -12,6 +12,7 @@ use lib.ListN.{getD}
 use lib.Signed.{leZ, leZ-yes}
 use Rattle.frame.specs.declared.direction.Direction.the-variants.{Command}
 use Rattle.frame.proofs.Cases.{cases}
+use Rattle.row.specs.MinusZero.{normal}
 use Rattle.row.specs.Signed.{numberOf, codeOf, plainCodeOf}
 use Rattle.row.specs.Table.{table, rowOf}
 use Rattle.row.specs.declared.profile.Profile.{Profile}
@@ -203,16 +204,16 @@ module _ (profile : Profile) (command : ℕ) (row : Row) (there : rowOf profile 
       go (Number z) f = rw e
       go (Input i on) f = clash (sym (none .3) ∙ both (row .pair) (isAnswer row i) f .0)
 
-  -- what a setting code says: off or a number, whose code it is
-  set : (v w : ℕ) → isNotCalculated row v ≡ false → isSetting row w ≡ true → valueAfter row (contentOf Command row (w ∷ [])) v ≡ w
+  -- what a setting code says: off or a number, whose code it is, but for minus zero
+  set : (v w : ℕ) → isNotCalculated row v ≡ false → isSetting row w ≡ true → valueAfter row (contentOf Command row (w ∷ [])) v ≡ normal row w
   unfolding contentOf
   set v w calculated s =
-      rw (well .set-no-word w s) (cases (λ (c : Content). encodedData (encodedOf row c) ≡ w ∷ [] → valueAfter row c v ≡ w) (isLevellerOff row w)
-      (λ o e. coded-is (One 0xFF) v w e)
-      (λ o e. rw calculated (coded-is (numberCode row (numberIn row w)) v w e))
+      rw (well .set-no-word w s) (cases (λ (c : Content). encodedData (encodedOf row c) ≡ normal row w ∷ [] → valueAfter row c v ≡ normal row w) (isLevellerOff row w)
+      (λ o e. coded-is (One 0xFF) v (normal row w) e)
+      (λ o e. rw calculated (coded-is (numberCode row (numberIn row w)) v (normal row w) e))
       (rw (well .set-no-word w s) at says))
     where
-      says : encodedData (encodedOf row (contentOf Command row (w ∷ []))) ≡ w ∷ []
+      says : encodedData (encodedOf row (contentOf Command row (w ∷ []))) ≡ normal row w ∷ []
       says = form-promise .read profile command row Command (w ∷ []) there (rw s) .1
 
   unless : (v w : ℕ) → isAnswer row v ≡ true → isAnswer row w ≡ true → isAnswer row (unlessNotCalculated row v w) ≡ true

@@ -18,3 +18,4 @@ pub mod Wrote
 pub mod Truth
 pub mod Signs
 pub mod Witness
+pub mod ZeroWitness

@@ -14,12 +14,12 @@ use Rattle.lists.specs.InOrder.{inOrder}
 use Rattle.sheet.specs.Line.{isLegal, sameCell}
 use Rattle.sheetfile.specs.Run.{lineFrame, framesOf}
 use Rattle.sheet.specs.declared.line.Line.{Line}
-use Rattle.unit.specs.Unit.{Setting, value, Settings, sameSetting, put, Unit, Done, takes, frameDone, after}
+use Rattle.unit.specs.Unit.{Setting, value, Settings, sameSetting, put, Unit, Holds, Done, takes, frameDone, after}
 use Rattle.lists.specs.Each.{Each}
 use Rattle.unit.specs.Sending.{AreBytes, settingOf, NotOn, Apart, sending, sendings}
 use Rattle.unit.specs.Demand3.{stopped, Promised}
 use Rattle.unit.specs.SendingPromise.{SendingPromise}
-use Rattle.unit.proofs.Cells.{is-cell, cell-self}
+use Rattle.unit.proofs.Cells.{is-cell, cell-self, holds-same}
 use Rattle.lists.proofs.Each.{each-map, each-zip}
 use Rattle.unit.proofs.Sets.{line-promise}
 use Rattle.unit.proofs.Flush.{Within, byte-within, zero-nearer, opened, bytes-within, quiet}
@@ -243,18 +243,18 @@ module _ (zeros : ℕ) (enough : 255 ≤ zeros) (profile : Profile) (s : Setting
 
   kept : Promised u ls sent
   kept = record {
-    sheet = λ n. each-map (λ l. want (settingOf l) ≡ l .value) _ ls (λ l e. to-value e (moment n .between (settingOf l))) own;
-    others = λ n x none. to-start none (moment n .between x);
-    full = each-zip (λ l. want (settingOf l) ≡ l .value) (Reached profile s want (after u sent)) _ ls (λ l e f. f ∙ e) own (all-full profile s want zeros enough ls lines cuts u start-good);
+    sheet = λ n. each-map (λ l. want (settingOf l) ≡ l .value) _ ls (λ l e. to-value (after u (take n sent)) (settingOf l) e (moment n .between (settingOf l))) own;
+    others = λ n x none. to-start (after u (take n sent)) x none (moment n .between x);
+    full = each-zip (λ l. want (settingOf l) ≡ l .value) (Reached profile s want (after u sent)) _ ls (λ l e f. holds-same (after u sent) (settingOf l) (l .value) (f ∙ e)) own (all-full profile s want zeros enough ls lines cuts u start-good);
   }
     where
-      to-value : {v w a b : ℕ} → w ≡ b → (v ≡ a) ⊎ (v ≡ w) → (v ≡ a) ⊎ (v ≡ b)
-      to-value e (inl f) = inl f
-      to-value e (inr f) = inr (f ∙ e)
+      to-value : (v : Unit) (x : Setting) {w a b : ℕ} → w ≡ b → (v .settings x ≡ a) ⊎ (v .settings x ≡ w) → Holds v x a ⊎ Holds v x b
+      to-value v x e (inl f) = inl (holds-same v x _ f)
+      to-value v x e (inr f) = inr (holds-same v x _ (f ∙ e))
 
-      to-start : {x : Setting} {v : ℕ} → NotOn ls x → (v ≡ s x) ⊎ (v ≡ want x) → v ≡ s x
-      to-start none (inl f) = f
-      to-start {x} none (inr f) = f ∙ wanted-other ls s x none
+      to-start : (v : Unit) (x : Setting) → NotOn ls x → (v .settings x ≡ s x) ⊎ (v .settings x ≡ want x) → Holds v x (s x)
+      to-start v x none (inl f) = holds-same v x (s x) f
+      to-start v x none (inr f) = holds-same v x (s x) (f ∙ wanted-other ls s x none)
 
 pub sending-promise : (zeros : ℕ) → 255 ≤ zeros → SendingPromise zeros
 sending-promise zeros enough = record { holds = kept zeros enough }

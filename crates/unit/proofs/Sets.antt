@@ -7,6 +7,7 @@ use borrow.Author.Tests.{not-true}
 use lib.Dec.{eqb}
 use Rattle.frame.specs.Frame.{frameOf}
 use Rattle.frame.specs.declared.direction.Direction.the-variants.{Command, Answer}
+use Rattle.row.specs.MinusZero.{isMinusZero}
 use Rattle.row.specs.Table.{table, rowOf}
 use Rattle.row.specs.declared.profile.Profile.{Profile}
 use Rattle.row.specs.declared.table.Row.{Row}
@@ -48,6 +49,7 @@ pub record Line-legal (profile : Profile) (l : Line) : Type 0 where
   pub row : Row
   pub judged : rowJudged profile (l .zone) (l .command) ≡ judged.Legal row
   pub sheet : row .sheet ≡ true
+  pub other : isMinusZero row (l .value) ≡ false
   pub setting : isSetting row (l .value) ≡ true
 
 pub line-legal : (profile : Profile) (l : Line) → isLegal profile l ≡ true → Line-legal profile l
@@ -55,7 +57,10 @@ unfolding isLegal
 line-legal profile l e = go (rowJudged profile (l .zone) (l .command)) refl e
   where
     go : (j : Judged) → rowJudged profile (l .zone) (l .command) ≡ j → legalIn j (l .value) ≡ true → Line-legal profile l
-    go (judged.Legal row) f g = let (sheet, setting) = both (row .sheet) (isSetting row (l .value)) g in record { row = row; judged = f; sheet = sheet; setting = setting }
+    go (judged.Legal row) f g =
+        let (sheet, rest) = both (row .sheet) (not (isMinusZero row (l .value)) && isSetting row (l .value)) g in
+        let (other, setting) = both (not (isMinusZero row (l .value))) (isSetting row (l .value)) rest in
+        record { row = row; judged = f; sheet = sheet; other = not-true _ other; setting = setting }
     go (judged.Refused n) f g = clash g
 
 module _ (profile : Profile) (l : Line) (legal : isLegal profile l ≡ true) where
@@ -91,7 +96,7 @@ module _ (profile : Profile) (l : Line) (legal : isLegal profile l ≡ true) whe
   calculated v = let other = is-plain .1 in rw other
 
   holds : (v : ℕ) → valueAfter row says v ≡ l .value
-  holds v = house-promise profile (l .command) row there .set v (l .value) (calculated v) (w .setting)
+  holds v = let other = w .other in house-promise profile (l .command) row there .set v (l .value) (calculated v) (w .setting) ∙ rw other
 
   -- what is done about a cell, over the row that was found
   abbrev does : Row → Settings → Setting → Done

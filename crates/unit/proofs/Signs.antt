@@ -1,18 +1,23 @@
 -- After the full sending of demand 3 the unit's answers sign the sheet off.
 use mathlib.Core.Path.{_≡_, refl, ap, sym, _∙_, subst}
-use mathlib.Core.Bool.{true}
+use mathlib.Core.Bool.{true, false, not, _&&_}
 use mathlib.Core.List.{List, [], _∷_, _++_, append-assoc, append-nil}
 use mathlib.Core.Logic.{_⊎_, inl, inr}
 use Prim.Native.Nat.{ℕ, zero, suc, _+_, _≤_}
 use native.Mathlib.Omega.{arith}
+use borrow.Author.Tests.{not-true}
 use lib.ListN.{take, replicate}
 use Rattle.frame.specs.Frame.{opens, ends, frameOf}
 use Rattle.frame.specs.Reader.{answerTo, takenAfter}
 use Rattle.frame.specs.declared.direction.Direction.the-variants.{Command, Answer}
+use Rattle.row.specs.MinusZero.{isMinusZero}
 use Rattle.row.specs.declared.profile.Profile.{Profile}
 use Rattle.row.specs.declared.table.Row.{Row}
+use Rattle.judging.specs.Judge.{isSetting}
+use Rattle.judging.proofs.Judges.{judged-lies}
 use Rattle.sheet.specs.Line.{isLegal}
 use Rattle.lists.specs.InOrder.{inOrder}
+use Rattle.lists.proofs.Tests.{both}
 use Rattle.sheetfile.specs.Run.{flush, lineFrame, framesOf, runOf}
 use Rattle.sheet.specs.declared.line.Line.{Line}
 use Rattle.message.specs.Message.{fromReading, frameRead, readOf}
@@ -30,7 +35,8 @@ use Rattle.tracker.specs.declared.tracker.Tracker.{Tracker}
 use Rattle.tracker.specs.declared.tracker.Kept.the-variants.{Value}
 use Rattle.tracker.proofs.Cells.{legal-cell}
 use Rattle.tracker.proofs.Frames.{brought-none, brought-one}
-use Rattle.tracker.proofs.History.{history-promise}
+use Rattle.tracker.proofs.History.{fit-all, history-promise}
+use Rattle.tracker.proofs.Keeps.{known-sheet-value}
 use Rattle.signing.proofs.Signs.{its-verdict, sign-promise}
 use Rattle.signing.proofs.CaptureSigns.{short}
 use Rattle.signing.specs.Sign.{signOff}
@@ -38,7 +44,7 @@ use Rattle.signing.specs.declared.sign.Signed.the-variants.{Yes}
 use Rattle.sheet.specs.Check.{sheetVerdict}
 use Rattle.sheet.specs.declared.check.Verdict.the-variants as verdict
 use Rattle.sheet.proofs.Sheets.{sheet-promise}
-use Rattle.unit.specs.Unit.{value, Settings, Unit, nothing, Done, done, frameDone, takes, after, replies}
+use Rattle.unit.specs.Unit.{value, Settings, Unit, compared, Holds, nothing, Done, done, frameDone, takes, after, replies}
 use Rattle.unit.specs.Legal.{LegalSettings}
 use Rattle.lists.specs.Each.{Each}
 use Rattle.unit.specs.Sending.{AreBytes, settingOf, sending, sendings}
@@ -47,9 +53,9 @@ use Rattle.unit.specs.TruthPromise.{SignedSending}
 use Rattle.unit.proofs.Flush.{Within, opened, zero-nearer, quiet}
 use Rattle.unit.proofs.Moments.{always-last, always-take}
 use Rattle.unit.proofs.Sendings.{near-more, Good, Wanted, sent-good, wanted, start-good, lines}
-use Rattle.unit.proofs.Sets.{reads, line-promise}
+use Rattle.unit.proofs.Sets.{Line-legal, line-legal, reads, line-promise}
 use Rattle.unit.proofs.Answers.{answer-reads, done-promise}
-use Rattle.unit.proofs.Truth.{replies-append, brought-append, known-true}
+use Rattle.unit.proofs.Truth.{replies-append, brought-append, after-profile, known-true}
 use Rattle.unit.proofs.Demand.{fit, demand-3}
 use Rattle.streams.specs.Stream.{answersBy, readerBy}
 
@@ -85,11 +91,6 @@ module _ (l : Line) (u : Unit) (legal : isLegal (u .profile) l ≡ true) (near :
   line-taken : after u (lineFrame l) .taken ≡ []
   unfolding readerBy frameOf answerTo takenAfter
   line-taken = ap (λ (x : Unit). after x rest .taken) first
-
-after-profile : (u : Unit) (bs : List ℕ) → after u bs .profile ≡ u .profile
-unfolding readerBy
-after-profile u [] = refl
-after-profile u (b ∷ bs) = after-profile (takes u b) bs
 
 -- the frames of legal lines, from a reader that 21 opens
 frames-answered : (ls : List Line) (u : Unit) → Each (λ (l : Line). isLegal (u .profile) l ≡ true) ls → Within Command 1 (u .taken)
@@ -191,13 +192,29 @@ module _ (profile : Profile) (s : Settings) (legal : LegalSettings profile s) wh
         subst (λ (fs : List BroughtAnswer). Each (Known fs) ls) (append-assoc earlier (answerOf l ∷ []) (answersOf ls)) (all-known (earlier ++ answerOf l ∷ []) ls (w .1)),
       )
 
--- a line whose cell is known to the tracker, and true of the unit, and set in the unit, holds
-module _ (t : Tracker) (now : Settings) (true-now : (zone command b : ℕ) → keptIn t zone command ≡ Value b → now (value zone command) ≡ b) where
-  all-hold : (ls : List Line) → Each (λ (l : Line). (b : ℕ) × (keptIn t (l .zone) (l .command) ≡ Value b)) ls → Each (λ (l : Line). now (settingOf l) ≡ l .value) ls → Each (IsHeld t) ls
-  all-hold [] k h = tt
-  all-hold (l ∷ ls) k h =
-      let same : k .0 .0 ≡ l .value = sym (true-now (l .zone) (l .command) (k .0 .0) (k .0 .1)) ∙ h .0 in
-      (k .0 .1 ∙ ap Value same, all-hold ls (k .1) (h .1))
+-- a line whose cell is known to the tracker, and true of the unit, and set in the unit, holds: neither byte is minus zero, so they are
+-- the same where they compare the same
+module _ (t : Tracker) (now : Unit) (family : t .profile ≡ now .profile) (true-now : (zone command b : ℕ) → keptIn t zone command ≡ Value b → Holds now (value zone command) b) where
+  stands-for-itself : (l : Line) (w : Line-legal (now .profile) l) (b : ℕ) → isMinusZero (w .row) b ≡ false → compared (now .profile) (settingOf l) b ≡ b
+  stands-for-itself l w b other = let there = judged-lies (now .profile) (l .zone) (l .command) (w .row) (w .judged) .there in rw (there, other)
+
+  known-other : (l : Line) (w : Line-legal (now .profile) l) (b : ℕ) → keptIn t (l .zone) (l .command) ≡ Value b → isMinusZero (w .row) b ≡ false
+  known-other l w b e =
+      let value = known-sheet-value t (l .zone) (l .command) (w .row) b (rw family (w .judged)) (w .sheet) e in
+      let rest = both (w .row .sheet) (not (isMinusZero (w .row) b) && isSetting (w .row) b) value .1 in
+      not-true _ (both (not (isMinusZero (w .row) b)) (isSetting (w .row) b) rest .0)
+
+  one-holds : (l : Line) → isLegal (now .profile) l ≡ true → (b : ℕ) → keptIn t (l .zone) (l .command) ≡ Value b → Holds now (settingOf l) (l .value) → IsHeld t l
+  one-holds l legal b e h =
+      let w = line-legal (now .profile) l legal in
+      let same : b ≡ l .value =
+      sym (stands-for-itself l w b (known-other l w b e)) ∙ sym (true-now (l .zone) (l .command) b e) ∙ h ∙ stands-for-itself l w (l .value) (w .other) in
+      e ∙ ap Value same
+
+  all-hold : (ls : List Line) → Each (λ (l : Line). isLegal (now .profile) l ≡ true) ls → Each (λ (l : Line). (b : ℕ) × (keptIn t (l .zone) (l .command) ≡ Value b)) ls
+      → Each (λ (l : Line). Holds now (settingOf l) (l .value)) ls → Each (IsHeld t) ls
+  all-hold [] legal k h = tt
+  all-hold (l ∷ ls) legal k h = (one-holds l (legal .0) (k .0 .0) (k .0 .1) (h .0), all-hold ls (legal .1) (k .1) (h .1))
 
 signs-full : (profile : Profile) (s : Settings) (before : List ℕ) (sheet : List Line) (cuts : List ℕ)
     → LegalSettings profile s → AreBytes before → sheetVerdict profile sheet ≡ verdict.Accepted
@@ -214,8 +231,10 @@ signs-full profile s before sheet cuts legal bytes accepted =
     let t = trackedBy profile (replies u sent) in
     let known = subst (λ (fs : List BroughtAnswer). Each (λ (l : Line). (b : ℕ) × (keptIn (answersFed (freshTracker profile) fs) (l .zone) (l .command) ≡ Value b)) sheet) (sym (ends .1)) (all-known profile s legal (ends .0) sheet (f .legal)) in
     let full = demand-3 .holds profile s before sheet cuts bytes accepted .full in
+    let family = fit-all profile (freshTracker profile) (broughtBy (replies u sent)) (refl, (refl, refl)) .0 ∙ sym (after-profile u sent) in
+    let lawful = subst (λ (p : Profile). Each (λ (l : Line). isLegal p l ≡ true) sheet) (sym (after-profile u sent)) (f .legal) in
     sign-promise t sheet .yes (its-verdict profile (broughtBy (replies u sent)) sheet ∙ accepted)
-    (all-hold t (after u sent .settings) (known-true u sent legal) sheet known full)
+    (all-hold t (after u sent) family (known-true u sent legal) sheet lawful known full)
 
 pub signed-sending : SignedSending
 signed-sending = record {

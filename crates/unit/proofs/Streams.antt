@@ -25,6 +25,7 @@ use Rattle.unit.specs.Unit.{current, Done, nothing, frameDone, Unit, byt
 use Rattle.unit.specs.Legal.{LegalSettings}
 use Rattle.unit.specs.Sending.{AreBytes}
 use Rattle.unit.specs.UnitPromise.{UnitPromise, HeardPromise}
+use Rattle.unit.proofs.Cells.{holds-same}
 use Rattle.unit.proofs.Flush.{by-place}
 use Rattle.unit.proofs.Acts.{frame-legal, frame-now}
 use Rattle.unit.proofs.Answers.{bytes-append, frame-bytes}
@@ -75,7 +76,7 @@ all-bytes u (b ∷ bs) l t h =
     (all-bytes (takes u b) bs (byte-legal u b l) (taken-bytes u b t (h .0)) (h .1))
 
 pub unit-promise : (u : Unit) (sent : List ℕ) → UnitPromise u sent
-unit-promise u sent = record { legal = stays-legal u sent; now = stays-now u sent; answers = all-bytes u sent }
+unit-promise u sent = record { legal = stays-legal u sent; now = holds-same (after u sent) current (u .settings current) (stays-now u sent); answers = all-bytes u sent }
 
 -- what a reader has taken begins with 21
 Opened : List ℕ → Type 0

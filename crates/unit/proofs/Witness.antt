@@ -60,7 +60,7 @@ zeros-legal profile = record {
 pub some-legal-promise : (profile : Profile) → SomeLegalPromise profile
 some-legal-promise profile = record { settings = zeroSettings; legal = zeros-legal profile }
 
-abbrev line : ℕ → ℕ → ℕ → Line
+abbrev pub line : ℕ → ℕ → ℕ → Line
 line zone command v = record { zone = zone; command = command; value = v }
 
 -- twelve lines of A, none of them 00
@@ -144,7 +144,7 @@ abbrev single : List Line
 single = line 1 0x3A 0x05 ∷ []
 
 -- with 254 zeros the line's 21 is taken for data, and its frame is lost; with 255 it falls on the end place
-lost : after stuck (sending 254 single) .settings (value 1 0x3A) ≡ 0x00
+pub lost : after stuck (sending 254 single) .settings (value 1 0x3A) ≡ 0x00
 unfolding inOrder readerBy frameDone frameOf answerTo takenAfter readOf contentOf firstRow table numberOf codeOf plainCodeOf
 lost = refl
 
@@ -157,9 +157,10 @@ unfolding isLegal rowJudged firstRow table
 single-legal = refl
 
 pub too-few : SendingPromise 254 → ⊥
+unfolding inOrder readerBy frameDone frameOf answerTo takenAfter readOf contentOf firstRow table numberOf codeOf plainCodeOf
 too-few promise =
     let held = promise .holds A zeroSettings (0x21 ∷ 0x01 ∷ 0x3A ∷ 0xFF ∷ []) single [] (omega arith, (omega arith, (omega arith, (omega arith, tt)))) (single-legal, tt) (tt, tt) .full .0 in
-    let z : _≡_ {A = ℕ} 0 5 = sym lost ∙ held in
+    let z : _≡_ {A = ℕ} 0 5 = held in
     omega (arith, z)
 
 pub flush-promise : FlushPromise

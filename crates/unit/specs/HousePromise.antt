@@ -7,6 +7,7 @@ use mathlib.Core.Logic.{_⊎_}
 use lib.IntN.{ℤ, sucℤ, predℤ}
 use lib.Signed.{_≤ℤ_}
 use Rattle.frame.specs.declared.direction.Direction.the-variants.{Command}
+use Rattle.row.specs.MinusZero.{normal}
 use Rattle.row.specs.Table.{rowOf}
 use Rattle.row.specs.declared.profile.Profile.{Profile}
 use Rattle.row.specs.declared.table.Row.{Row}
@@ -43,8 +44,8 @@ pub record HousePromise (profile : Profile) (command : ℕ) (row : Row) (there :
   pub switched : (v : ℕ) → isNotCalculated row v ≡ false → (valueAfter row On v ≡ 0x01) × (valueAfter row Off v ≡ 0x00)
   -- "Toggle swaps 00 and 01."
   pub toggled : (valueAfter row Toggle 0x00 ≡ 0x01) × (valueAfter row Toggle 0x01 ≡ 0x00)
-  -- a request changes nothing; a setting code is held after it, whatever was held before but room EQ not calculated
+  -- a request changes nothing; a setting code is held after it, 80 as 00, whatever was held before but room EQ not calculated
   pub requested : (v : ℕ) → valueAfter row Request v ≡ v
-  pub set : (v w : ℕ) → isNotCalculated row v ≡ false → isSetting row w ≡ true → valueAfter row (contentOf Command row (w ∷ [])) v ≡ w
+  pub set : (v w : ℕ) → isNotCalculated row v ≡ false → isSetting row w ≡ true → valueAfter row (contentOf Command row (w ∷ [])) v ≡ normal row w
   -- a legal value stays legal
   pub legal : row .pair ≡ false → (v : ℕ) → isAnswer row v ≡ true → (c : Content) → isForm Command row c ≡ true → isAnswer row (valueAfter row c v) ≡ true

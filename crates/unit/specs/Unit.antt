@@ -1,4 +1,4 @@
--- Document 01, 'The unit': its settings, and what each byte does to it.
+-- Document 01, 'The unit': its settings, and what each byte does to it. Document 02, C-14: "the unit takes 80 as 00".
 use Prim.Native.Nat.{ℕ}
 use mathlib.Core.Path.{_≡_}
 use mathlib.Core.Bool.{Bool, true, false, cond, _&&_}
@@ -12,6 +12,7 @@ use Rattle.fields.specs.Fields.{fieldsIn, dataIn}
 use Rattle.frame.specs.declared.direction.Direction.the-variants.{Command, Answer}
 use Rattle.frame.specs.declared.reader.ByteAnswer.{ByteAnswer}
 use Rattle.frame.specs.declared.reader.ByteAnswer.the-variants.{Waiting, Noise, Frame, Broken}
+use Rattle.row.specs.MinusZero.{normalIn}
 use Rattle.row.specs.Table.{rowOf}
 use Rattle.row.specs.declared.profile.Profile.{Profile}
 use Rattle.row.specs.declared.table.Row.{Row}
@@ -59,9 +60,16 @@ pub record Unit : Type 0 where
   pub taken : List ℕ
   pub settings : Settings
 
--- wherever a promise compares a unit's setting with a value, it is by this
+-- what a cell's value is compared by: in its row, what it is turned into
+abbrev pub compared : Profile → Setting → ℕ → ℕ
+compared profile (value zone command) v = normalIn (rowOf profile command) v
+compared profile (input i) v = v
+compared profile current v = v
+
+-- wherever a promise compares a unit's setting with a value, it is by this: document 02, C-14: "wherever a unit's setting is compared,
+-- 80 and 00 are the same value"
 abbrev pub Holds : Unit → Setting → ℕ → Type 0
-Holds u x v = u .settings x ≡ v
+Holds u x v = compared (u .profile) x (u .settings x) ≡ compared (u .profile) x v
 
 -- the cell that a command is about: its row's value in its zone; "For S 0F a request answers for the current input, a setting for the
 -- named one", and two bytes of data name one
