@@ -80,3 +80,20 @@ pub statuses : listed (
     ++ letters "total 29 frame 29 broken 0 noise 0 pending 0\n"
 unfolding letters decimalIn textLine answersBy readerBy answerTo takenAfter inOrder labels count eventsTold eventsFrom directionOf isFrame bytesAt profileOf numberOf table firstRow contentOf readOf frameRead
 statuses = refl
+
+-- document 02, C-14: 80 is listed as 0, never -0, and A8 is -40 quarters; a denial shows no data, and 80 in Leveller stays refused
+pub zeros : listed (
+    0x41 ∷ 0x52
+    ∷ 0x21 ∷ 0x01 ∷ 0x3A ∷ 0x00 ∷ 0x01 ∷ 0x80 ∷ 0x0D
+    ∷ 0x21 ∷ 0x02 ∷ 0x45 ∷ 0x00 ∷ 0x01 ∷ 0xA8 ∷ 0x0D
+    ∷ 0x21 ∷ 0x01 ∷ 0x3A ∷ 0x84 ∷ 0x01 ∷ 0x80 ∷ 0x0D
+    ∷ 0x21 ∷ 0x01 ∷ 0x39 ∷ 0x00 ∷ 0x01 ∷ 0x80 ∷ 0x0D ∷ []
+    )
+    ≡ letters "at length event zone code answer value\n"
+    ++ letters "0 7 frame 1 3A 00 0\n"
+    ++ letters "7 7 frame 2 45 00 -40\n"
+    ++ letters "14 7 denied 1 3A 84 -\n"
+    ++ letters "21 7 unread - - - 4\n"
+    ++ letters "total 28 frame 28 broken 0 noise 0 pending 0\n"
+unfolding letters decimalIn textLine answersBy readerBy answerTo takenAfter inOrder labels count eventsTold eventsFrom directionOf isFrame bytesAt profileOf numberOf table firstRow contentOf readOf frameRead
+zeros = refl

@@ -1,6 +1,6 @@
 -- Sheets that are accepted, and sheets at fault, computed from the definitions.
 use mathlib.Core.Path.{_≡_, refl}
-use mathlib.Core.List.{List, [], _∷_, _++_}
+use mathlib.Core.List.{List, [], _∷_, _++_, map}
 use Prim.Native.Nat.{ℕ}
 use lib.ListN.{take, drop, replicate}
 use Rattle.frame.specs.Frame.{frameOf}
@@ -76,6 +76,17 @@ judged =
 pub values-judged : judged ≡ Refused 7 0 ∷ Refused 7 0 ∷ Refused 7 0 ∷ Refused 7 0 ∷ Refused 7 0 ∷ Accepted ∷ []
 unfolding sheetVerdict lowestFault isLegal isRepeated rowJudged firstRow table
 values-judged = refl
+
+-- document 02, C-14: "sheets refuse 80 with 7 as before", in each of the three sheet rows that take it in commands; "A 45 runs to A8 ..
+-- on sheets too"
+pub minus-zeros-judged : map (λ (command : ℕ). sheetVerdict A (line 1 command 0x80 ∷ [])) (0x3A ∷ 0x45 ∷ 0x46 ∷ []) ≡ replicate 3 (Refused 7 0)
+unfolding sheetVerdict lowestFault isLegal isRepeated rowJudged firstRow table
+minus-zeros-judged = refl
+
+pub trims-judged : map (λ (v : ℕ). sheetVerdict A (line 1 0x45 v ∷ [])) (0x00 ∷ 0x81 ∷ 0x8B ∷ 0xA8 ∷ 0xA9 ∷ 0x01 ∷ [])
+    ≡ Accepted ∷ Accepted ∷ Accepted ∷ Accepted ∷ Refused 7 0 ∷ Refused 7 0 ∷ []
+unfolding sheetVerdict lowestFault isLegal isRepeated rowJudged firstRow table
+trims-judged = refl
 
 -- the file and the run of one line; a file of the other family; a file that is not whole; the order of 10 and 6
 pub file-computed : fileOf A (line 2 0x3A 0x85 ∷ []) ≡ 0x53 ∷ 0x4C ∷ 0x41 ∷ 0x02 ∷ 0x3A ∷ 0x85 ∷ []
