@@ -34,7 +34,8 @@ impl Cases {
         } else {
             match self.random.below(100) {
                 0..=29 => self.capture_case(),
-                30..=57 => self.message_case(),
+                30..=53 => self.message_case(),
+                54..=57 => self.signed_case(),
                 58..=61 => self.step_case(),
                 62..=75 => self.sheet_case(),
                 76..=87 => self.history_case(),

@@ -7,10 +7,15 @@ use crate::rows::ROWS;
 use crate::samples::{DIRECTIONS, PROFILES};
 
 /// Zone, command and data for `codes`: rows of both profiles, and some that have none.
-const CODES: [(u8, u8, &str); 12] = [
+const CODES: [(u8, u8, &str); 17] = [
     (1, 0x44, "00"),
     (1, 0x3A, "85"),
     (1, 0x3A, "80"),
+    (2, 0x45, "80"),
+    (1, 0x45, "A8"),
+    (1, 0x45, "A9"),
+    (3, 0x46, "80"),
+    (1, 0x3B, "80"),
     (2, 0x39, "FF"),
     (3, 0x37, "02"),
     (2, 0x10, "00"),

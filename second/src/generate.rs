@@ -64,21 +64,117 @@ mod tests {
         assert!(missing.is_empty());
     }
 
+    fn enough_lines() -> Vec<String> {
+        let mut cases = Cases::new(7);
+        (0..ENOUGH).flat_map(|index| cases.next(index)).collect()
+    }
+
+    fn print(line: &str) -> String {
+        let mut printed = String::new();
+        operations::run(line.as_bytes(), &mut printed, &mut Tally::default());
+        printed
+    }
+
     #[test]
     fn steps_that_a_row_lacks_are_read_sent_and_written() {
-        let is_13 = |line: &String| {
-            let mut printed = String::new();
-            operations::run(line.as_bytes(), &mut printed, &mut Tally::default());
-            printed.starts_with("refused 13")
-        };
-        let mut cases = Cases::new(7);
-        let lines: Vec<String> = (0..ENOUGH).flat_map(|index| cases.next(index)).collect();
+        let lines = enough_lines();
         for word in ["read", "frame", "send", "write"] {
             for profile in ["41", "53"] {
                 let start = format!("{word} {profile} ");
                 let mut started = lines.iter().filter(|line| line.starts_with(&start));
-                assert!(started.any(is_13), "{start}");
+                assert!(
+                    started.any(|line| print(line).starts_with("refused 13")),
+                    "{start}"
+                );
             }
         }
+    }
+
+    #[test]
+    fn minus_zero_comes_to_every_operation() {
+        let lines = enough_lines();
+        // A line of that start and end, with that in it, that prints that.
+        let comes = |start: &str, within: &str, end: &str, prints: &str| {
+            let mut found = lines
+                .iter()
+                .filter(|line| line.starts_with(start) && line.contains(within))
+                .filter(|line| line.ends_with(end));
+            assert!(
+                found.any(|line| print(line).contains(prints)),
+                "{start}..{within}..{end}: {prints}"
+            );
+        };
+        for (p, command) in [("41", "3A"), ("41", "45"), ("41", "46"), ("53", "3B")] {
+            let ended = format!(" {command} 00 80");
+            let answer = format!("{command}0001800D");
+            comes(&format!("read {p} 52 "), "", &ended, "number 0");
+            comes(&format!("frame {p} 52 "), "", &answer, "number 0");
+            comes(&format!("send {p} 52 "), "", &ended, "0001000D");
+            comes("raw 52 ", "", &ended, "0001800D");
+            let said = format!(" {command} 00 07 0000 00 80");
+            comes(&format!("write {p} "), " 53 0", &said, "0001000D");
+            comes(&format!("write {p} "), " 44 0", " 80", "01800D");
+            let listed = format!(" {command} 00 0\n");
+            comes(&format!("listing {p}52"), &answer, "", &listed);
+            let cell = format!(" {command}");
+            comes(&format!("cell {p} "), &answer, &cell, "value 00");
+            let legal = format!(" {command} 80");
+            comes(&format!("legal {p} "), "", &legal, "not legal");
+            let record = format!("{command}80");
+            comes(&format!("check {p} 534C"), &record, "", "refused 7 at 0");
+            let frame = format!("{command}01800D");
+            let (read, sent, listed) = match p {
+                "41" => ("number 0", "01000D", format!(" {command} - 0\n")),
+                _ => ("refused 4", "refused 4", " unread - - - 4\n".to_string()),
+            };
+            comes(&format!("read {p} 43 "), "", &ended, read);
+            comes(&format!("frame {p} 43 "), "", &frame, read);
+            comes(&format!("send {p} 43 "), "", &ended, sent);
+            comes(&format!("listing {p}43"), &frame, "", &listed);
+        }
+        for command in ["3A", "45", "46"] {
+            // A sheet's 00, where nothing but 80 was answered.
+            let record_and_answer = format!("{command}00 2101{command}0001800D");
+            let signed = lines.iter().any(|line| {
+                line.starts_with("sign 41 534C4101")
+                    && line.ends_with(&record_and_answer)
+                    && print(line) == "signed\n"
+            });
+            assert!(signed, "{command}");
+        }
+    }
+
+    #[test]
+    fn the_sub_trim_comes_to_its_ends() {
+        let lines = enough_lines();
+        for (code, reads) in [
+            ("8B", "number -11"),
+            ("A8", "number -40"),
+            ("A9", "refused 4"),
+        ] {
+            for start in ["read 41 43 ", "read 41 52 "] {
+                let end = format!(" 45 00 {code}");
+                let mut found = lines
+                    .iter()
+                    .filter(|line| line.starts_with(start) && line.ends_with(&end));
+                assert!(
+                    found.any(|line| print(line).contains(reads)),
+                    "{start}{end}"
+                );
+            }
+        }
+        for (code, legal) in [("A8", "legal\n"), ("A9", "not legal\n")] {
+            let end = format!(" 45 {code}");
+            let mut found = lines
+                .iter()
+                .filter(|line| line.starts_with("legal 41 ") && line.ends_with(&end));
+            assert!(found.any(|line| print(line) == legal), "{end}");
+        }
+        // Most between them in answers and on sheets.
+        let with = |within: String| lines.iter().any(|line| line.contains(&within));
+        let answered = (0x8B..=0xA8).filter(|code| with(format!("450001{code:02X}0D")));
+        assert!(answered.count() >= 20);
+        let on_sheets = (0x8B..=0xA8).filter(|code| with(format!("534C410145{code:02X}")));
+        assert!(on_sheets.count() >= 15);
     }
 }

@@ -9,9 +9,10 @@ use crate::rows::{Profile, Says};
 /// The events that a listing names.
 pub const NAMES: [&str; 6] = ["frame", "broken", "noise", "pending", "denied", "unread"];
 
-/// An event, and for a frame the message or the refusal.
+/// An event, and for a frame what it brings and the message or the refusal.
 pub struct Entry<'a> {
     event: Event,
+    pub frame: Option<Frame<'a>>,
     pub reading: Option<Result<Message<'a>, u8>>,
 }
 
@@ -43,12 +44,15 @@ pub fn listing(input: &[u8]) -> Result<Listing<'_>, u8> {
 }
 
 fn entry(profile: Profile, direction: Direction, capture: &[u8], event: Event) -> Entry<'_> {
-    let reading = match event.stretch {
-        Stretch::Frame => Frame::of(direction, event.bytes(capture))
-            .map(|frame| message::read(profile, direction, frame)),
+    let frame = match event.stretch {
+        Stretch::Frame => Frame::of(direction, event.bytes(capture)),
         _ => None,
     };
-    Entry { event, reading }
+    Entry {
+        event,
+        frame,
+        reading: frame.map(|frame| message::read(profile, direction, frame)),
+    }
 }
 
 impl Entry<'_> {
@@ -181,5 +185,22 @@ total 0 frame 0 broken 0 noise 0 pending 0
         assert_eq!(line(b"AR", "2101388101020D"), "0 7 unread - - - 5");
         assert_eq!(line(b"SC", "21013701F10D"), "0 6 unread - - - 13");
         assert_eq!(line(b"AR", "2101380001F10D"), "0 7 unread - - - 4");
+    }
+
+    #[test]
+    fn minus_zero_is_printed_as_0() {
+        let line = |letters, hex| print(letters, hex).lines().nth(1).unwrap().to_string();
+        assert_eq!(line(b"AC", "21013A01800D"), "0 6 frame 1 3A - 0");
+        assert_eq!(line(b"AR", "21013A0001800D"), "0 7 frame 1 3A 00 0");
+        assert_eq!(line(b"AC", "21024501800D"), "0 6 frame 2 45 - 0");
+        assert_eq!(line(b"AR", "2102450001800D"), "0 7 frame 2 45 00 0");
+        assert_eq!(line(b"AC", "21034601800D"), "0 6 frame 3 46 - 0");
+        assert_eq!(line(b"AR", "2103460001800D"), "0 7 frame 3 46 00 0");
+        assert_eq!(line(b"SC", "21013B01800D"), "0 6 unread - - - 4");
+        assert_eq!(line(b"SR", "21013B0001800D"), "0 7 frame 1 3B 00 0");
+        assert_eq!(line(b"AR", "2101390001800D"), "0 7 unread - - - 4");
+        assert_eq!(line(b"AC", "21014501A80D"), "0 6 frame 1 45 - -40");
+        assert_eq!(line(b"AR", "2101450001A80D"), "0 7 frame 1 45 00 -40");
+        assert_eq!(line(b"AR", "2101450001A90D"), "0 7 unread - - - 4");
     }
 }

@@ -22,6 +22,9 @@ use std::fs::{self, File};
 use std::io::{self, BufReader, BufWriter, Read, Write};
 use std::process::ExitCode;
 
+use frame::Direction;
+use tally::Kind;
+
 const USE: &str = "use: second operations | listing | trials | rows | generate SEED COUNT OPS \
 | exhaustive OPS | runs SEED COUNT OPS | plug SEED COUNT RUNS OUTPUT OPS EXPECTED";
 
@@ -100,12 +103,17 @@ fn generate(seed: u64, count: usize, ops: &str) -> Result<ExitCode, String> {
     let (text, missing) =
         generate::generate(seed, count, create(ops)?).map_err(|error| format!("{ops}: {error}"))?;
     print(&text)?;
+    tell_missing(&missing, count >= generate::ENOUGH)
+}
+
+/// Tells the kinds that never occurred, a failure where there were enough cases.
+fn tell_missing(missing: &[Kind], enough: bool) -> Result<ExitCode, String> {
     if missing.is_empty() {
         return Ok(ExitCode::SUCCESS);
     }
     let missing: Vec<String> = missing.iter().map(|kind| kind.to_string()).collect();
     print(&format!("never occurred: {}\n", missing.join("; ")))?;
-    Ok(match count >= generate::ENOUGH {
+    Ok(match enough {
         true => ExitCode::FAILURE,
         false => ExitCode::SUCCESS,
     })
@@ -120,11 +128,14 @@ fn plug(
         Ok(outcome) => {
             save(ops, &outcome.ops)?;
             save(expected, &outcome.expected)?;
+            let mut kinds = Kind::minus_zeros(Direction::Answer);
+            let minus_zeros: u64 = kinds.iter().map(|&kind| outcome.minus_zeros.of(kind)).sum();
             print(&format!(
-                "sheets {} cuts {} bytes {} cells {}\n",
+                "sheets {} cuts {} bytes {} cells {} minus zeros {minus_zeros}\n",
                 outcome.sheets, outcome.cuts, outcome.bytes, outcome.cells
             ))?;
-            Ok(ExitCode::SUCCESS)
+            kinds.retain(|&kind| outcome.minus_zeros.of(kind) == 0);
+            tell_missing(&kinds, outcome.sheets >= plug::ENOUGH)
         }
         Err(plug::Failure::Wrong(wrong)) => {
             print(&format!("wrong: {wrong}\n"))?;

@@ -148,11 +148,13 @@ mod tests {
         let input_6_on = Says::Input { input: 6, on: true };
         let bench = [
             (A, Command, "21013A01850D", number(-5)),
-            (A, Command, "21013A01800D", Refused(4)),
+            (A, Command, "21013A01800D", number(0)),
             (A, Command, "21013901FF0D", Is::Says(Says::LevellerOff)),
             (A, Command, "210139010B0D", Refused(4)),
             (A, Command, "210145018A0D", number(-10)),
-            (A, Command, "210145018B0D", Refused(4)),
+            (A, Command, "210145018B0D", number(-11)),
+            (A, Command, "21014501A80D", number(-40)),
+            (A, Command, "21014501A90D", Refused(4)),
             (A, Command, "2104990200000D", Refused(1)),
             (A, Command, "21021001F00D", Refused(1)),
             (A, Command, "2101380200000D", Refused(3)),
@@ -187,11 +189,68 @@ mod tests {
                     Message::Denied { .. } => panic!("{hex}"),
                 },
             }
-            // A message that is written reads back as itself.
+            // A message that is written reads back as itself, and 80 as 00.
             if let Ok(message) = message {
-                assert_eq!(bytes(profile, message), Ok(frame_bytes));
+                let written = bytes(profile, message).unwrap();
+                assert_eq!(text::hex(&written), hex.replace("01800D", "01000D"));
+                let back = Frame::of(direction, &written).unwrap();
+                assert_eq!(read(profile, direction, back), Ok(message));
             }
         }
+    }
+
+    #[test]
+    fn minus_zero_is_read_as_0_and_written_as_00() {
+        let read = |profile, direction, command, data| {
+            let frame = Frame {
+                zone: 1,
+                command,
+                answer_code: 0x00,
+                data,
+            };
+            read(profile, direction, frame)
+        };
+        for command in [0x3A, 0x45, 0x46] {
+            let message = Message::Command {
+                zone: 1,
+                command,
+                says: Says::Number(0),
+            };
+            assert_eq!(read(A, Command, command, &[0x80]), Ok(message));
+            let written = vec![0x21, 0x01, command, 0x01, 0x00, 0x0D];
+            assert_eq!(bytes(A, message), Ok(written));
+        }
+        for (profile, command) in [(A, 0x3A), (A, 0x45), (A, 0x46), (S, 0x3B)] {
+            let message = Message::Status {
+                zone: 1,
+                command,
+                says: Says::Number(0),
+            };
+            assert_eq!(read(profile, Answer, command, &[0x80]), Ok(message));
+            let written = vec![0x21, 0x01, command, 0x00, 0x01, 0x00, 0x0D];
+            assert_eq!(bytes(profile, message), Ok(written));
+        }
+        // Balance is only requested, and Leveller is not signed.
+        assert_eq!(read(S, Command, 0x3B, &[0x80]), Err(4));
+        assert_eq!(read(A, Command, 0x39, &[0x80]), Err(4));
+        assert_eq!(read(A, Answer, 0x39, &[0x80]), Err(4));
+        assert_eq!(read(A, Command, 0x3A, &[0x80, 0x80]), Err(3));
+    }
+
+    #[test]
+    fn denied_data_and_raw_frames_keep_80() {
+        let frame = Frame {
+            zone: 1,
+            command: 0x3A,
+            answer_code: 0x84,
+            data: &[0x80],
+        };
+        let message = read(A, Answer, frame).unwrap();
+        assert!(matches!(message, Message::Denied { data: [0x80], .. }));
+        let written = vec![0x21, 0x01, 0x3A, 0x84, 0x01, 0x80, 0x0D];
+        assert_eq!(bytes(A, message), Ok(written));
+        let written = vec![0x21, 0x01, 0x3A, 0x01, 0x80, 0x0D];
+        assert_eq!(frame.bytes(Command), Ok(written));
     }
 
     #[test]

@@ -327,6 +327,95 @@ mod tests {
     }
 
     #[test]
+    fn minus_zero_is_read_as_0() {
+        for (p, command) in [("41", "3A"), ("41", "45"), ("41", "46"), ("53", "3B")] {
+            let said = match p {
+                "41" => format!("command 1 {command} number 0"),
+                _ => "refused 4".to_string(),
+            };
+            assert_eq!(print(&format!("read {p} 43 01 {command} 00 80")), said);
+            assert_eq!(print(&format!("frame {p} 43 2101{command}01800D")), said);
+            let said = format!("status 1 {command} number 0");
+            assert_eq!(print(&format!("read {p} 52 01 {command} 00 80")), said);
+            assert_eq!(print(&format!("frame {p} 52 2101{command}0001800D")), said);
+            let codes = print(&format!("codes {p} 01 {command} 80"));
+            assert_eq!(codes.lines().next(), Some(format!("00 {said}").as_str()));
+            assert_eq!(
+                codes.lines().nth(0x82),
+                Some(format!("82 denied 1 {command} 82 : 80").as_str())
+            );
+            assert_eq!(
+                print(&format!("cell {p} 2101{command}0001800D 01 {command}")),
+                "value 00"
+            );
+            assert_eq!(print(&format!("legal {p} 01 {command} 80")), "not legal");
+        }
+        assert_eq!(print("read 41 43 01 39 00 80"), "refused 4");
+        assert_eq!(print("read 41 52 01 39 00 80"), "refused 4");
+        assert_eq!(print("read 41 43 01 45 00 A8"), "command 1 45 number -40");
+        assert_eq!(print("read 41 43 01 45 00 A9"), "refused 4");
+        assert_eq!(print("legal 41 03 45 A8"), "legal");
+        assert_eq!(print("legal 41 03 45 A9"), "not legal");
+    }
+
+    #[test]
+    fn minus_zero_is_written_as_00_but_not_raw_or_denied() {
+        assert_eq!(
+            print("send 41 43 06 00 01 45 00 80"),
+            "bytes 6 : 21014501000D"
+        );
+        assert_eq!(
+            print("send 53 52 07 00 02 3B 00 80"),
+            "bytes 7 : 21023B0001000D"
+        );
+        assert_eq!(
+            print("send 53 43 06 00 02 3B 00 80"),
+            "refused 4 : AAAAAAAAAAAA"
+        );
+        assert_eq!(
+            print("send 41 52 07 00 01 3A 84 80"),
+            "bytes 7 : 21013A8401800D"
+        );
+        assert_eq!(
+            print("write 41 07 00 44 01 3A 84 07 0000 00 80"),
+            "bytes 7 : 21013A8401800D"
+        );
+        assert_eq!(
+            print("write 41 06 00 43 01 3A 00 07 0000 00 80"),
+            "bytes 6 : 21013A01000D"
+        );
+        assert_eq!(
+            print("write 41 06 00 43 01 45 00 07 FFD8 00 -"),
+            "bytes 6 : 21014501A80D"
+        );
+        assert_eq!(
+            print("write 41 06 00 43 01 3A 00 07 0080 00 80"),
+            "refused 4 : AAAAAAAAAAAA"
+        );
+        assert_eq!(print("raw 43 06 00 01 3A 00 80"), "bytes 6 : 21013A01800D");
+        assert_eq!(
+            print("raw 52 07 00 01 3B 00 80"),
+            "bytes 7 : 21013B0001800D"
+        );
+        assert_eq!(print("fields 52 21013A0001800D"), "01 3A 00 : 80");
+    }
+
+    #[test]
+    fn a_sheet_of_00_is_signed_by_an_answered_80() {
+        let sign = |value: &str, answer: &str| {
+            print(&format!("sign 41 534C410145{value} 2101450001{answer}0D"))
+        };
+        assert_eq!(sign("00", "80"), "signed");
+        assert_eq!(sign("00", "00"), "signed");
+        assert_eq!(sign("81", "80"), "not signed");
+        assert_eq!(sign("A8", "A8"), "signed");
+        assert_eq!(sign("00", "A9"), "not signed");
+        assert_eq!(sign("80", "80"), "refused 7 at 0");
+        assert_eq!(print("check 41 534C41013A80"), "refused 7 at 0");
+        assert_eq!(print("check 41 534C410145A8"), "accepted 1 : 0145A8");
+    }
+
+    #[test]
     fn counts_of_refusals_end_with_13() {
         let last = |line| print(line).lines().last().unwrap().to_string();
         let counts = "accepted 10 refused 1:0 2:0 3:0 4:65526 5:0 13:0";

@@ -2,13 +2,17 @@
 
 use std::fmt::Write as _;
 
-use crate::frame::{Direction, DATA_LIMIT, END, OPENING};
+use crate::frame::{Direction, Frame, DATA_LIMIT, END, OPENING};
 use crate::random::Random;
 use crate::rows::{self, Codes, Profile, ROWS, ZONES};
 use crate::samples::{self, PROFILES};
 use crate::sheet::{self, Line};
+use crate::tally::{Kind, Tally};
 use crate::text;
 use crate::unit::{Settings, Unit};
+
+/// From this many sheets on minus zero of every row must be told.
+pub const ENOUGH: usize = 200;
 
 /// Scenarios of random cuts for each sheet.
 const RANDOM_SCENARIOS: usize = 6;
@@ -71,6 +75,8 @@ pub struct Outcome {
     pub cuts: u64,
     pub bytes: u64,
     pub cells: u64,
+    /// Cells whose last answer was minus zero.
+    pub minus_zeros: Tally,
 }
 
 impl Outcome {
@@ -108,9 +114,10 @@ impl Watch {
             for zone in 0..ZONES {
                 let value = now.values[index][zone];
                 let start = self.start.values[index][zone];
+                let as_started = row.same(value, start);
                 let good = match self.wanted[index][zone] {
-                    Some(wanted) => value == wanted || (!done && value == start),
-                    None => value == start,
+                    Some(wanted) => row.same(value, wanted) || (!done && as_started),
+                    None => as_started,
                 };
                 if !good {
                     let wanted = match self.wanted[index][zone] {
@@ -182,15 +189,15 @@ impl Session {
         Ok(())
     }
 
-    /// Sends a full run, after which the sheet's values must be set.
+    /// Sends a full run, or what comes after it; then the sheet's values must be set.
     fn finish(
         &mut self,
         profile: Profile,
         watch: &Watch,
-        run: &[u8],
+        bytes: &[u8],
         outcome: &mut Outcome,
     ) -> Result<(), String> {
-        self.send(profile, watch, run, outcome)?;
+        self.send(profile, watch, bytes, outcome)?;
         watch
             .check(&self.unit.settings, true)
             .map_err(|wrong| format!("after the last full run: {wrong}"))
@@ -210,24 +217,29 @@ impl Session {
         places.extend([(0, 0x44), (other, 0x44), (255, 0x37), (1, 0x99), (1, 0x00)]);
         places.extend(foreign.map(|&foreign| (1, foreign_command(foreign))));
         for (zone, command) in places {
-            let printed = self.truth(profile, zone, command);
+            let printed = self.truth(profile, zone, command, &mut outcome.minus_zeros);
             let operation = format!("cell {p:02X} {capture} {zone:02X} {command:02X}");
             outcome.expect(&operation, &printed);
             outcome.cells += 1;
         }
     }
 
-    fn truth(&self, profile: Profile, zone: u8, command: u8) -> String {
+    /// What `cell` must print; minus zero is counted.
+    fn truth(&self, profile: Profile, zone: u8, command: u8, minus_zeros: &mut Tally) -> String {
         let cell = rows::find(profile, command)
             .filter(|&row| ROWS[row].has_zone(zone) && ROWS[row].codes != Codes::Pair);
         let Some(row) = cell else {
             return "no cell".to_string();
         };
         let zone = usize::from(zone) - 1;
-        match self.answered[row][zone] {
-            true => format!("value {:02X}", self.unit.settings.values[row][zone]),
-            false => "unknown".to_string(),
+        if !self.answered[row][zone] {
+            return "unknown".to_string();
         }
+        let value = self.unit.settings.values[row][zone];
+        if ROWS[row].is_minus_zero(value) {
+            minus_zeros.count(Kind::MinusZero(row, Direction::Answer));
+        }
+        format!("value {:02X}", ROWS[row].as_written(value))
     }
 }
 
@@ -269,6 +281,25 @@ fn stopped(random: &mut Random) -> Vec<u8> {
         _ => {
             let count = random.between(0, data_length);
             bytes.extend(samples::mixed(random, count));
+        }
+    }
+    bytes
+}
+
+/// Requests of about half of the settings.
+fn requests(random: &mut Random, profile: Profile) -> Vec<u8> {
+    let mut bytes = Vec::new();
+    for row in samples::rows_of(profile) {
+        for zone in (1..=profile.zones()).filter(|&zone| row.has_zone(zone)) {
+            let frame = Frame {
+                zone,
+                command: row.command,
+                answer_code: 0x00,
+                data: &[0xF0],
+            };
+            if random.percent(50) {
+                bytes.extend(samples::raw(Direction::Command, frame));
+            }
         }
     }
     bytes
@@ -346,7 +377,12 @@ fn scenarios(
         some = random_cuts(random, sheet, run, outcome)?;
     }
     let after = after_commands(random, sheet, run, outcome)?;
-    let told = *random.pick(&[&every, &some, &after]);
+    let mut told = random.pick(&[every, some, after]).clone();
+    // Requests change nothing, and tell of settings that no run sets.
+    let watch = Watch::new(sheet, told.unit.settings.clone());
+    let requests = requests(random, sheet.profile);
+    told.finish(sheet.profile, &watch, &requests, outcome)
+        .map_err(|wrong| format!("requests {}: {wrong}", text::hex(&requests)))?;
     told.tell(sheet.profile, outcome);
     let operation = format!(
         "sign {:02X} {} {}",
@@ -473,6 +509,59 @@ mod tests {
         };
         assert_eq!(outcome.sheets, 40);
         assert_eq!(print(&outcome.ops), outcome.expected);
+        // Units that answered 80 in each row are among them.
+        for kind in Kind::minus_zeros(Direction::Answer) {
+            assert!(outcome.minus_zeros.of(kind) > 0, "{kind}");
+        }
+    }
+
+    #[test]
+    fn minus_zero_is_the_setting_00_where_it_reads_so() {
+        let sheet = Sheet {
+            profile: Profile::A,
+            lines: vec![Line {
+                zone: 1,
+                command: 0x3A,
+                value: 0x00,
+            }],
+        };
+        let at = |command, zone: usize, value| {
+            let mut settings = Settings::zeros();
+            settings.values[rows::find(Profile::A, command).unwrap()][zone - 1] = value;
+            settings
+        };
+        // The sheet's value, at any time.
+        let watch = Watch::new(&sheet, at(0x3A, 1, 0x85));
+        assert!(watch.check(&at(0x3A, 1, 0x80), true).is_ok());
+        assert!(watch.check(&at(0x3A, 1, 0x85), false).is_ok());
+        assert!(watch.check(&at(0x3A, 1, 0x85), true).is_err());
+        // The starting value, either way.
+        let watch = Watch::new(&sheet, at(0x3A, 2, 0x80));
+        assert!(watch.check(&Settings::zeros(), true).is_ok());
+        assert!(watch.check(&at(0x3A, 2, 0x80), true).is_ok());
+        assert!(watch.check(&at(0x3A, 2, 0x81), true).is_err());
+        let watch = Watch::new(&sheet, Settings::zeros());
+        assert!(watch.check(&at(0x45, 3, 0x80), true).is_ok());
+        // Leveller is not signed.
+        assert!(watch.check(&at(0x39, 3, 0x80), true).is_err());
+    }
+
+    #[test]
+    fn a_tracker_must_know_00_of_a_unit_that_answered_80() {
+        let mut settings = Settings::zeros();
+        settings.values[rows::find(Profile::S, 0x3B).unwrap()] = [0x80, 0x80, 0x00];
+        let mut session = Session::new(Unit::new(Profile::S, settings));
+        for byte in [0x21, 0x02, 0x3B, 0x01, 0xF0, 0x0D] {
+            session.feed(Profile::S, byte);
+        }
+        assert_eq!(session.answers, [0x21, 0x02, 0x3B, 0x00, 0x01, 0x80, 0x0D]);
+        let mut tally = Tally::default();
+        let mut truth = |zone| session.truth(Profile::S, zone, 0x3B, &mut tally);
+        assert_eq!(truth(1), "unknown");
+        assert_eq!(truth(2), "value 00");
+        assert_eq!(truth(3), "no cell");
+        let kinds = Kind::minus_zeros(Direction::Answer);
+        assert_eq!(kinds.iter().map(|&kind| tally.of(kind)).sum::<u64>(), 1);
     }
 
     #[test]

@@ -43,6 +43,9 @@ pub const ZONES: usize = 3;
 /// The codes that request and step; a row may lack them.
 pub const REQUEST_AND_STEPS: [u8; 3] = [0xF0, 0xF1, 0xF2];
 
+/// The code of minus zero, which the signed rows read as 00.
+pub const MINUS_ZERO: u8 = 0x80;
+
 /// The inputs of S 0F.
 pub const INPUTS: [u8; 5] = [0x01, 0x02, 0x03, 0x05, 0x06];
 
@@ -88,7 +91,7 @@ pub enum Zones {
 pub enum Codes {
     /// A code means itself.
     Plain,
-    /// 81 to FF mean minus (code less 80 hex).
+    /// 81 to FF mean minus (code less 80 hex), and 80 means 0.
     Signed,
     /// A code means itself, FF is off.
     Leveller,
@@ -141,15 +144,15 @@ pub static ROWS: [Row; 19] = [
     row(A, 0x37, "room EQ",            All, Plain,    Not,   &[],                           ON_OFF,  &[(0x00, 0x02)]),
     row(A, 0x38, "Dolby Volume",       All, Plain,    Sheet, &[(0x00, 0x02)],               REQUEST, &[(0x00, 0x02)]),
     row(A, 0x39, "Leveller",           All, Leveller, Sheet, &[(0x00, 0x0A), (0xFF, 0xFF)], STEPS,   &[(0x00, 0x0A), (0xFF, 0xFF)]),
-    row(A, 0x3A, "calibration offset", All, Signed,   Sheet, &[(0x00, 0x0F), (0x81, 0x8F)], STEPS,   &[(0x00, 0x0F), (0x81, 0x8F)]),
+    row(A, 0x3A, "calibration offset", All, Signed,   Sheet, &[(0x00, 0x0F), (0x80, 0x8F)], STEPS,   &[(0x00, 0x0F), (0x80, 0x8F)]),
     row(A, 0x44, "sample rate",        All, Plain,    Not,   &[],                           REQUEST, &[(0x00, 0x08)]),
-    row(A, 0x45, "sub trim",           All, Signed,   Sheet, &[(0x00, 0x00), (0x81, 0x8A)], STEPS,   &[(0x00, 0x00), (0x81, 0x8A)]),
-    row(A, 0x46, "picture brightness", All, Signed,   Sheet, &[(0x00, 0x0A), (0x81, 0x8A)], STEPS,   &[(0x00, 0x0A), (0x81, 0x8A)]),
+    row(A, 0x45, "sub trim",           All, Signed,   Sheet, &[(0x00, 0x00), (0x80, 0xA8)], STEPS,   &[(0x00, 0x00), (0x80, 0xA8)]),
+    row(A, 0x46, "picture brightness", All, Signed,   Sheet, &[(0x00, 0x0A), (0x80, 0x8A)], STEPS,   &[(0x00, 0x0A), (0x80, 0x8A)]),
     row(S, 0x0D, "volume",             All, Plain,    Sheet, &[(0x00, 0x63)],               STEPS,   &[(0x00, 0x63)]),
     row(S, 0x0E, "mute",               All, Plain,    Sheet, &[(0x00, 0x01)],               TOGGLE,  &[(0x00, 0x01)]),
     row(S, 0x0F, "direct",             One, Pair,     Not,   &[],                           REQUEST, &[]),
     row(S, 0x37, "room EQ",            All, Plain,    Not,   &[(0x00, 0x06)],               REQUEST, &[(0x00, 0x06), (0xA0, 0xA0)]),
-    row(S, 0x3B, "balance",            All, Signed,   Not,   &[],                           REQUEST, &[(0x00, 0x0C), (0x81, 0x8C)]),
+    row(S, 0x3B, "balance",            All, Signed,   Not,   &[],                           REQUEST, &[(0x00, 0x0C), (0x80, 0x8C)]),
     row(S, 0x44, "sample rate",        All, Plain,    Not,   &[],                           REQUEST, &[(0x00, 0x0A)]),
     row(S, 0x5A, "input detect",       All, Plain,    Not,   &[],                           REQUEST, &[(0x00, 0x01)]),
     row(S, 0x5B, "processor input",    All, Plain,    Sheet, &[(0x00, 0x00), (0x02, 0x09)], REQUEST, &[(0x00, 0x00), (0x02, 0x09)]),
@@ -278,14 +281,37 @@ impl Row {
         }
     }
 
+    /// Whether the row reads that code as 00.
+    pub fn is_minus_zero(&self, code: u8) -> bool {
+        self.codes == Codes::Signed && code == MINUS_ZERO
+    }
+
+    /// The code that is written and kept: 00 for minus zero.
+    pub fn as_written(&self, code: u8) -> u8 {
+        match self.is_minus_zero(code) {
+            true => 0x00,
+            false => code,
+        }
+    }
+
+    /// Whether two codes are the same setting.
+    pub fn same(&self, one: u8, other: u8) -> bool {
+        self.as_written(one) == self.as_written(other)
+    }
+
+    /// Whether minus zero is legal in that direction.
+    pub fn has_minus_zero(&self, direction: Direction) -> bool {
+        self.is_minus_zero(MINUS_ZERO) && self.says(direction, &[MINUS_ZERO]).is_ok()
+    }
+
     /// Whether a status answer may hold that one byte.
     pub fn has_answer(&self, value: u8) -> bool {
         holds(self.answers, value)
     }
 
-    /// Whether it is a sheet row with that setting code.
+    /// Whether it is a sheet row with that setting code; a sheet has no minus zero.
     pub fn has_sheet_value(&self, value: u8) -> bool {
-        self.mark == Mark::Sheet && holds(self.settings, value)
+        self.mark == Mark::Sheet && holds(self.settings, value) && !self.is_minus_zero(value)
     }
 
     /// The row as 14 numbers; none where they cannot show it.
@@ -422,15 +448,61 @@ mod tests {
     }
 
     #[test]
-    fn no_row_has_80_and_sheet_values_are_answers() {
+    fn four_rows_have_80_and_say_0_by_it() {
+        let both = [0x3A, 0x45, 0x46].map(|command| (Profile::A, command));
+        let answers = [both[0], both[1], both[2], (Profile::S, 0x3B)];
         for row in &ROWS {
+            let place = (row.profile, row.command);
+            let says = |direction| row.says(direction, &[0x80]);
+            match both.contains(&place) {
+                true => assert_eq!(says(Direction::Command), Ok(Says::Number(0))),
+                false => assert_eq!(says(Direction::Command), Err(4)),
+            }
+            match answers.contains(&place) {
+                true => assert_eq!(says(Direction::Answer), Ok(Says::Number(0))),
+                false if row.codes == Pair => assert_eq!(says(Direction::Answer), Err(3)),
+                false => assert_eq!(says(Direction::Answer), Err(4)),
+            }
             for direction in [Direction::Command, Direction::Answer] {
-                assert!(row.says(direction, &[0x80]).is_err());
+                assert_eq!(row.has_minus_zero(direction), says(direction).is_ok());
             }
-            if row.mark == Mark::Sheet {
-                assert!((0..=255).all(|v| row.has_sheet_value(v) == row.has_answer(v)));
-                assert!(row.zones == Zones::All);
+            assert_eq!(row.is_minus_zero(0x80), answers.contains(&place));
+            assert_eq!(row.same(0x80, 0x00), answers.contains(&place));
+            assert!((0..=255).all(|code| row.as_written(code) == code || code == 0x80));
+        }
+    }
+
+    #[test]
+    fn sheet_values_are_answers_without_80() {
+        for row in ROWS.iter().filter(|row| row.mark == Mark::Sheet) {
+            for value in 0..=255 {
+                let expected = row.has_answer(value) && value != 0x80;
+                assert_eq!(row.has_sheet_value(value), expected);
             }
+            assert!(row.zones == Zones::All);
+        }
+    }
+
+    #[test]
+    fn the_sub_trim_runs_to_a8() {
+        let row = &ROWS[find(Profile::A, 0x45).unwrap()];
+        for direction in [Direction::Command, Direction::Answer] {
+            for (code, said) in [
+                (0x00, Ok(Says::Number(0))),
+                (0x01, Err(4)),
+                (0x7F, Err(4)),
+                (0x80, Ok(Says::Number(0))),
+                (0x81, Ok(Says::Number(-1))),
+                (0x8A, Ok(Says::Number(-10))),
+                (0x8B, Ok(Says::Number(-11))),
+                (0xA8, Ok(Says::Number(-40))),
+                (0xA9, Err(4)),
+            ] {
+                assert_eq!(row.says(direction, &[code]), said, "{code:02X}");
+            }
+            assert_eq!(row.data(direction, Says::Number(-40)), Ok(vec![0xA8]));
+            assert_eq!(row.data(direction, Says::Number(-41)), Err(4));
+            assert_eq!(row.data(direction, Says::Number(1)), Err(4));
         }
     }
 
@@ -465,16 +537,23 @@ mod tests {
         assert_eq!(of(Profile::A, 0x39), leveller);
         let direct = [0x53, 0x0F, 1, 0, 1, 3, 5, 6, 1, 0, 1, 0, 0, 0];
         assert_eq!(of(Profile::S, 0x0F), direct);
+        // The ranges have 80.
+        let trim = [0x41, 0x45, 3, 2, 0x00, 0x00, 0x80, 0xA8, 1, 1, 0, 1, 0, 1];
+        assert_eq!(of(Profile::A, 0x45), trim);
+        let balance = [0x53, 0x3B, 2, 0, 0x00, 0x0C, 0x80, 0x8C, 1, 0, 0, 1, 0, 0];
+        assert_eq!(of(Profile::S, 0x3B), balance);
         assert!(!table().contains('?'));
     }
 
     #[test]
-    fn data_that_are_said_read_back() {
+    fn data_that_are_said_read_back_and_80_as_00() {
         for row in &ROWS {
             for direction in [Direction::Command, Direction::Answer] {
                 for code in 0..=255 {
                     if let Ok(says) = row.says(direction, &[code]) {
-                        assert_eq!(row.data(direction, says), Ok(vec![code]));
+                        let written = if code == 0x80 { 0x00 } else { code };
+                        assert_eq!(row.data(direction, says), Ok(vec![written]));
+                        assert_eq!(row.says(direction, &[written]), Ok(says));
                     }
                 }
             }

@@ -2,7 +2,7 @@
 
 use crate::frame::{Direction, Frame, DATA_LIMIT, END, OPENING};
 use crate::random::Random;
-use crate::rows::{Codes, Mark, Profile, Row, Says, INPUTS, REQUEST_AND_STEPS, ROWS};
+use crate::rows::{Codes, Mark, Profile, Row, Says, INPUTS, MINUS_ZERO, REQUEST_AND_STEPS, ROWS};
 use crate::sheet::Line;
 
 pub const PROFILES: [Profile; 2] = [Profile::A, Profile::S];
@@ -11,6 +11,26 @@ pub const DIRECTIONS: [Direction; 2] = [Direction::Command, Direction::Answer];
 /// The rows of a profile.
 pub fn rows_of(profile: Profile) -> Vec<&'static Row> {
     ROWS.iter().filter(|row| row.profile == profile).collect()
+}
+
+/// The rows of a profile that read minus zero as 00.
+pub fn minus_zero_rows(profile: Profile) -> Vec<&'static Row> {
+    let mut rows = rows_of(profile);
+    rows.retain(|row| row.is_minus_zero(MINUS_ZERO));
+    rows
+}
+
+/// Codes about the ends of a row's answers, and about the end that document 01 gave the sub trim.
+pub fn ends(row: &Row) -> Vec<u8> {
+    let is_end = |code: u8| {
+        let nexts = [code.wrapping_sub(1), code.wrapping_add(1)];
+        nexts
+            .iter()
+            .any(|&next| row.has_answer(next) != row.has_answer(code))
+    };
+    (0..=255)
+        .filter(|&code| is_end(code) || [0x8A, 0x8B].contains(&code))
+        .collect()
 }
 
 /// A zone that the row has.
@@ -23,6 +43,10 @@ pub fn zone(random: &mut Random, row: &Row) -> u8 {
 pub fn data(random: &mut Random, row: &Row, direction: Direction) -> Vec<u8> {
     if row.codes == Codes::Pair && (direction == Direction::Answer || random.percent(80)) {
         return vec![*random.pick(&INPUTS), random.below(2) as u8];
+    }
+    // Minus zero is one code of many and is picked more often.
+    if row.has_minus_zero(direction) && random.percent(25) {
+        return vec![MINUS_ZERO];
     }
     // What is no number has few codes and is picked more often.
     let words = random.percent(40);
@@ -81,14 +105,18 @@ pub fn valid(random: &mut Random, profile: Profile, direction: Direction) -> Vec
     raw(direction, frame)
 }
 
-/// A frame that requests or steps, also in a row or direction that lacks it.
-fn step(random: &mut Random, profile: Profile, direction: Direction) -> Vec<u8> {
+/// A frame that requests, steps or has minus zero, also in a row or direction that lacks it.
+fn perhaps_lacked(random: &mut Random, profile: Profile, direction: Direction) -> Vec<u8> {
     let row = *random.pick(&rows_of(profile));
+    let code = match random.percent(25) {
+        true => MINUS_ZERO,
+        false => *random.pick(&REQUEST_AND_STEPS),
+    };
     let frame = Frame {
         zone: zone(random, row),
         command: row.command,
         answer_code: 0x00,
-        data: &[*random.pick(&REQUEST_AND_STEPS)],
+        data: &[code],
     };
     raw(direction, frame)
 }
@@ -188,7 +216,7 @@ fn stretch(random: &mut Random, profile: Profile, direction: Direction) -> Vec<u
             bytes.truncate(random.between(1, bytes.len() - 1));
             bytes
         }
-        17 => step(random, profile, direction),
+        17 => perhaps_lacked(random, profile, direction),
         _ => {
             let byte = *random.pick(&[OPENING, END, 0x00]);
             vec![byte; random.between(1, 60)]
@@ -218,6 +246,14 @@ pub fn sheet_values(row: &Row) -> Vec<u8> {
         .collect()
 }
 
+/// A legal sheet value; 00 more often where 80 reads as it.
+fn sheet_value(random: &mut Random, row: &Row) -> u8 {
+    match row.is_minus_zero(MINUS_ZERO) && random.percent(25) {
+        true => 0x00,
+        false => *random.pick(&sheet_values(row)),
+    }
+}
+
 /// Every zone of every sheet row, with a random legal value, in random order.
 pub fn full_sheet(random: &mut Random, profile: Profile) -> Vec<Line> {
     let mut lines = Vec::new();
@@ -225,12 +261,11 @@ pub fn full_sheet(random: &mut Random, profile: Profile) -> Vec<Line> {
         if row.mark == Mark::Not {
             continue;
         }
-        let values = sheet_values(row);
         for zone in 1..=profile.zones() {
             lines.push(Line {
                 zone,
                 command: row.command,
-                value: *random.pick(&values),
+                value: sheet_value(random, row),
             });
         }
     }

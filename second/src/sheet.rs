@@ -144,6 +144,28 @@ mod tests {
     }
 
     #[test]
+    fn a_sheet_has_no_80_and_the_sub_trim_runs_to_a8() {
+        for command in [0x3A, 0x45, 0x46] {
+            for zone in 1..=3 {
+                let lines = [line(zone, command, 0x80)];
+                assert_eq!(check(Profile::A, &lines), Err(fault(7, 0)));
+                let file = records(Profile::A, &lines);
+                assert_eq!(read_file(Profile::A, &file), Err(fault(7, 0)));
+                assert_eq!(check(Profile::A, &[line(zone, command, 0x00)]), Ok(()));
+            }
+        }
+        for value in [0x00, 0x80] {
+            assert!(!legal(Profile::S, line(1, 0x3B, value)));
+        }
+        for value in [0x00, 0x81, 0x8A, 0x8B, 0xA8] {
+            assert!(legal(Profile::A, line(3, 0x45, value)), "{value:02X}");
+        }
+        for value in [0x01, 0x7F, 0xA9] {
+            assert!(!legal(Profile::A, line(3, 0x45, value)), "{value:02X}");
+        }
+    }
+
+    #[test]
     fn marks_come_before_the_lines() {
         let mut file = records(Profile::A, &[line(1, 0x3A, 0x80); 14]);
         assert_eq!(read_file(Profile::A, &file), Err(fault(6, 12)));

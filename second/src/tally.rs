@@ -3,10 +3,11 @@
 use std::collections::BTreeMap;
 use std::fmt;
 
-use crate::frame::{Direction, Stretch};
+use crate::frame::{Direction, Frame, Stretch};
 use crate::listing::{self, Listing};
 use crate::message::Message;
 use crate::rows::{self, Profile, ROWS};
+use crate::samples::DIRECTIONS;
 
 #[derive(Clone, Copy, PartialEq, Eq, PartialOrd, Ord)]
 pub enum Kind {
@@ -14,6 +15,8 @@ pub enum Kind {
     Listed(&'static str),
     /// A row of the table, read in a direction.
     Row(usize, Direction),
+    /// Minus zero in a row of the table, read in a direction.
+    MinusZero(usize, Direction),
     Refusal(u8),
     SignOff(&'static str),
     Word(&'static str),
@@ -29,14 +32,34 @@ impl Kind {
     pub fn all(words: &[&'static str]) -> Vec<Kind> {
         let mut kinds: Vec<Kind> = Stretch::ALL.into_iter().map(Kind::Event).collect();
         kinds.extend(listing::NAMES.map(Kind::Listed));
-        for direction in [Direction::Command, Direction::Answer] {
+        for direction in DIRECTIONS {
             kinds.extend((0..ROWS.len()).map(|row| Kind::Row(row, direction)));
         }
+        kinds.extend(DIRECTIONS.into_iter().flat_map(Kind::minus_zeros));
         kinds.extend((1..=13).map(Kind::Refusal));
         kinds.extend(SIGN_OFFS.map(Kind::SignOff));
         kinds.extend(words.iter().copied().map(Kind::Word));
         kinds
     }
+
+    /// Minus zero of every row that has it in that direction.
+    pub fn minus_zeros(direction: Direction) -> Vec<Kind> {
+        (0..ROWS.len())
+            .filter(|&row| ROWS[row].has_minus_zero(direction))
+            .map(|row| Kind::MinusZero(row, direction))
+            .collect()
+    }
+}
+
+/// A row and the direction that it was read in.
+fn row_text(row: usize, direction: Direction) -> String {
+    let row = &ROWS[row];
+    let direction = match direction {
+        Direction::Command => "command",
+        Direction::Answer => "answer",
+    };
+    let letter = row.profile.letter() as char;
+    format!("{letter} {:02X} {}, {direction}", row.command, row.name)
 }
 
 impl fmt::Display for Kind {
@@ -44,15 +67,9 @@ impl fmt::Display for Kind {
         match *self {
             Kind::Event(stretch) => write!(out, "event {}", stretch.name()),
             Kind::Listed(name) => write!(out, "listing {name}"),
-            Kind::Row(row, direction) => {
-                let row = &ROWS[row];
-                let direction = match direction {
-                    Direction::Command => "command",
-                    Direction::Answer => "answer",
-                };
-                let letter = row.profile.letter() as char;
-                let (command, name) = (row.command, row.name);
-                write!(out, "row {letter} {command:02X} {name}, {direction}")
+            Kind::Row(row, direction) => write!(out, "row {}", row_text(row, direction)),
+            Kind::MinusZero(row, direction) => {
+                write!(out, "minus zero {}", row_text(row, direction))
             }
             Kind::Refusal(number) => write!(out, "refusal {number}"),
             Kind::SignOff(result) => write!(out, "sign-off {result}"),
@@ -75,23 +92,27 @@ impl Tally {
         self.counts.get(&kind).copied().unwrap_or(0)
     }
 
-    /// Counts the row of a message that was read.
-    pub fn message(&mut self, profile: Profile, message: &Message) {
+    /// Counts the row of a message that was read, and minus zero where the frame brought it.
+    pub fn message(&mut self, profile: Profile, frame: &Frame, message: &Message) {
         let (command, direction) = match *message {
             Message::Command { command, .. } => (command, Direction::Command),
             Message::Status { command, .. } => (command, Direction::Answer),
             Message::Denied { .. } => return,
         };
-        if let Some(row) = rows::find(profile, command) {
-            self.count(Kind::Row(row, direction));
+        let Some(row) = rows::find(profile, command) else {
+            return;
+        };
+        self.count(Kind::Row(row, direction));
+        if matches!(*frame.data, [code] if ROWS[row].is_minus_zero(code)) {
+            self.count(Kind::MinusZero(row, direction));
         }
     }
 
     pub fn listing(&mut self, listing: &Listing) {
         for entry in &listing.entries {
             self.count(Kind::Listed(entry.name()));
-            if let Some(Ok(message)) = &entry.reading {
-                self.message(listing.profile, message);
+            if let (Some(frame), Some(Ok(message))) = (&entry.frame, &entry.reading) {
+                self.message(listing.profile, frame, message);
             }
         }
     }

@@ -34,7 +34,7 @@ impl Tracker {
         let message = message::read(self.profile, Direction::Answer, answer)?;
         if let Message::Status { zone, command, .. } = message {
             if let Some((row, zone)) = self.place(zone, command) {
-                self.cells[row][zone] = Some(answer.data[0]);
+                self.cells[row][zone] = Some(ROWS[row].as_written(answer.data[0]));
             }
         }
         Ok(message)
@@ -95,10 +95,41 @@ mod tests {
         assert!(tracker.signs_off(&[line(0x85)]));
         assert!(!tracker.signs_off(&[line(0x84)]));
         tracker.feed(answer(0x84, &[0x01])).unwrap();
-        assert_eq!(tracker.feed(answer(0x00, &[0x80])), Err(4));
+        tracker.feed(answer(0x84, &[0x80])).unwrap();
+        assert_eq!(tracker.feed(answer(0x00, &[0x90])), Err(4));
         assert_eq!(tracker.cell(1, 0x3A), Some(Some(0x85)));
         // A byte that the host has spoilt.
         tracker.cells[6][0] = Some(0x80);
         assert_eq!(tracker.cell(1, 0x3A), Some(None));
+    }
+
+    #[test]
+    fn an_answer_of_80_makes_00_known() {
+        for (profile, command) in [
+            (Profile::A, 0x3A),
+            (Profile::A, 0x45),
+            (Profile::A, 0x46),
+            (Profile::S, 0x3B),
+        ] {
+            let mut tracker = Tracker::new(profile);
+            let answer = Frame {
+                zone: 2,
+                command,
+                answer_code: 0x00,
+                data: &[0x80],
+            };
+            tracker.feed(answer).unwrap();
+            assert_eq!(tracker.cell(2, command), Some(Some(0x00)));
+            // Balance is on no sheet.
+            if profile == Profile::A {
+                let line = |value| Line {
+                    zone: 2,
+                    command,
+                    value,
+                };
+                assert!(tracker.signs_off(&[line(0x00)]));
+                assert!(!tracker.signs_off(&[line(0x81)]));
+            }
+        }
     }
 }

@@ -109,6 +109,15 @@ mod tests {
             "21013A0001000D 00 01"
         );
         assert_eq!(came("A 81 - value 03 3A"), "- 81 01");
+        assert_eq!(came("A 80 - value 03 3A"), "- 80 01");
+        assert_eq!(
+            came("A 80 21014501F10D value 01 45"),
+            "2101450001800D 80 01"
+        );
+        assert_eq!(
+            came("A 85 21014501800D value 01 45"),
+            "2101450001000D 00 01"
+        );
         assert_eq!(
             came("S 00 21010F0206010D input 06"),
             "21010F000206010D 01 01"

@@ -4,6 +4,7 @@ use crate::frame::{Direction, Frame, Reader, Step, OPENING};
 use crate::message::{self, Message};
 use crate::random::Random;
 use crate::rows::{self, Codes, Profile, Row, Says, INPUTS, ROWS, ZONES};
+use crate::samples;
 
 /// What a unit is set to.
 #[derive(Clone, PartialEq, Eq, Debug)]
@@ -26,7 +27,7 @@ impl Settings {
         }
     }
 
-    /// Random legal settings.
+    /// Random legal settings, minus zero among them.
     pub fn random(random: &mut Random, profile: Profile) -> Settings {
         let mut settings = Settings {
             current: random.below(INPUTS.len()),
@@ -36,9 +37,9 @@ impl Settings {
             if row.profile != profile || row.codes == Codes::Pair {
                 continue;
             }
-            let legal: Vec<u8> = (0..=255).filter(|&value| row.has_answer(value)).collect();
             for zone in (1..=ZONES as u8).filter(|&zone| row.has_zone(zone)) {
-                settings.values[index][usize::from(zone) - 1] = *random.pick(&legal);
+                let legal = samples::data(random, row, Direction::Answer);
+                settings.values[index][usize::from(zone) - 1] = legal[0];
             }
         }
         for value in &mut settings.direct {
@@ -212,6 +213,76 @@ mod tests {
         assert_eq!(answer(&mut a, "21013901F20D"), "2101390001000D");
     }
 
+    /// A unit that holds minus zero in zone 1 of a row.
+    fn at_minus_zero(profile: Profile, command: u8) -> Unit {
+        let mut unit = unit(profile);
+        unit.settings.values[rows::find(profile, command).unwrap()][0] = 0x80;
+        unit
+    }
+
+    #[test]
+    fn a_held_80_is_answered_as_it_is_and_steps_as_0() {
+        for (command, up) in [(0x3A, 0x01), (0x45, 0x80), (0x46, 0x01)] {
+            for (code, value) in [(0xF0, 0x80), (0xF1, up), (0xF2, 0x81)] {
+                let mut a = at_minus_zero(Profile::A, command);
+                assert_eq!(
+                    answer(&mut a, &format!("2101{command:02X}01{code:02X}0D")),
+                    format!("2101{command:02X}0001{value:02X}0D")
+                );
+            }
+        }
+        let mut s = at_minus_zero(Profile::S, 0x3B);
+        assert_eq!(answer(&mut s, "21013B01F00D"), "21013B0001800D");
+    }
+
+    #[test]
+    fn a_set_with_80_stores_00() {
+        for command in [0x3A, 0x45, 0x46] {
+            let index = rows::find(Profile::A, command).unwrap();
+            for value in [0x80, 0x85] {
+                let mut a = unit(Profile::A);
+                a.settings.values[index][0] = value;
+                assert_eq!(
+                    answer(&mut a, &format!("2101{command:02X}01800D")),
+                    format!("2101{command:02X}0001000D")
+                );
+                assert_eq!(a.settings, unit(Profile::A).settings);
+            }
+        }
+    }
+
+    #[test]
+    fn the_sub_trim_steps_to_a8() {
+        let mut a = unit(Profile::A);
+        assert_eq!(answer(&mut a, "210145018A0D"), "21014500018A0D");
+        assert_eq!(answer(&mut a, "21014501F20D"), "21014500018B0D");
+        assert_eq!(answer(&mut a, "21014501A80D"), "2101450001A80D");
+        assert_eq!(answer(&mut a, "21014501F20D"), "2101450001A80D");
+        assert_eq!(answer(&mut a, "21014501F10D"), "2101450001A70D");
+        assert_eq!(answer(&mut a, "21014501A90D"), "21014584000D");
+    }
+
+    #[test]
+    fn random_settings_are_legal_and_often_80() {
+        let mut random = Random::new(7);
+        for profile in samples::PROFILES {
+            let mut held = [0; ROWS.len()];
+            for _ in 0..100 {
+                let settings = Settings::random(&mut random, profile);
+                for row in samples::rows_of(profile) {
+                    let index = rows::find(profile, row.command).unwrap();
+                    let value = settings.values[index][0];
+                    assert!(row.codes == Codes::Pair || row.has_answer(value));
+                    held[index] += u32::from(row.is_minus_zero(value));
+                }
+            }
+            for row in samples::rows_of(profile) {
+                let index = rows::find(profile, row.command).unwrap();
+                assert_eq!(held[index] >= 10, row.has_minus_zero(Direction::Answer));
+            }
+        }
+    }
+
     #[test]
     fn room_eq_toggle_and_direct() {
         let mut a = unit(Profile::A);
@@ -234,11 +305,14 @@ mod tests {
         assert_eq!(answer(&mut a, "21003A01000D"), "21003A82000D");
         assert_eq!(answer(&mut a, "21019901000D"), "21019983000D");
         assert_eq!(answer(&mut a, "21013A000D"), "21013A86000D");
-        assert_eq!(answer(&mut a, "21013A01800D"), "21013A84000D");
+        assert_eq!(answer(&mut a, "21013A01800D"), "21013A0001000D");
+        assert_eq!(answer(&mut a, "21013A01900D"), "21013A84000D");
+        assert_eq!(answer(&mut a, "21013901800D"), "21013984000D");
         assert_eq!(answer(&mut a, "21013801020D"), "2101380001020D");
         assert_eq!(answer(&mut a, "21013801F20D"), "21013884000D");
         assert_eq!(answer(&mut a, "21013801F00D"), "2101380001020D");
         let mut s = unit(Profile::S);
+        assert_eq!(answer(&mut s, "21013B01800D"), "21013B84000D");
         assert_eq!(answer(&mut s, "21013701F10D"), "21013784000D");
         assert_eq!(answer(&mut s, "21010F01F10D"), "21010F84000D");
         assert_eq!(answer(&mut s, "21010F0206F10D"), "21010F84000D");

@@ -2,8 +2,8 @@
 
 use super::Cases;
 use crate::frame::{Direction, Frame};
-use crate::rows::{Profile, Row, Says, REQUEST_AND_STEPS, ROWS};
-use crate::samples;
+use crate::rows::{Profile, Row, Says, MINUS_ZERO, REQUEST_AND_STEPS, ROWS};
+use crate::samples::{self, minus_zero_rows, DIRECTIONS, PROFILES};
 
 /// The fields of a message.
 pub(super) struct Fields {
@@ -107,25 +107,64 @@ impl Cases {
     pub(super) fn step_case(&mut self) {
         let profile = self.profile();
         let row = *self.random.pick(&samples::rows_of(profile));
-        let fields = Fields {
-            profile,
-            direction: Direction::Command,
+        let code = *self.random.pick(&REQUEST_AND_STEPS);
+        let fields = self.of_code(row, Direction::Command, code);
+        self.message(&fields);
+    }
+
+    /// Minus zero and the ends of a row that reads it, in messages, captures and sheets.
+    pub(super) fn signed_case(&mut self) {
+        let rows: Vec<&Row> = PROFILES.into_iter().flat_map(minus_zero_rows).collect();
+        let row = *self.random.pick(&rows);
+        let ends = samples::ends(row);
+        for direction in DIRECTIONS {
+            let mut capture = Vec::new();
+            for code in [MINUS_ZERO, *self.random.pick(&ends)] {
+                let mut fields = self.of_code(row, direction, code);
+                capture.extend(samples::raw(direction, fields.frame()));
+                if self.random.percent(15) {
+                    fields.answer_code = self.random.between(0x82, 0x86) as u8;
+                }
+                self.message(&fields);
+            }
+            let input = self.listing_input(row.profile, direction, &capture);
+            self.add("listing", &[&input]);
+            for &code in &ends {
+                let fields = self.of_code(row, direction, code);
+                self.read(&fields);
+            }
+        }
+        self.signed_sheets(row, &ends);
+    }
+
+    /// Fields of one data byte, sound unless the row and direction lack it.
+    fn of_code(&mut self, row: &'static Row, direction: Direction, code: u8) -> Fields {
+        Fields {
+            profile: row.profile,
+            direction,
             row,
             zone: samples::zone(&mut self.random, row),
             command: row.command,
             answer_code: 0x00,
-            data: vec![*self.random.pick(&REQUEST_AND_STEPS)],
-        };
-        self.message(&fields);
+            data: vec![code],
+        }
     }
 
-    /// Reads and writes a message.
-    fn message(&mut self, fields: &Fields) {
+    fn read(&mut self, fields: &Fields) {
         let p = self.letter(fields.profile.letter());
         let d = self.letter(fields.direction.letter());
         let (zone, command) = ([fields.zone], [fields.command]);
         let (ac, data) = ([fields.answer_code], &fields.data[..]);
         self.add("read", &[&p, &d, &zone, &command, &ac, data]);
+    }
+
+    /// Reads and writes a message.
+    fn message(&mut self, fields: &Fields) {
+        self.read(fields);
+        let p = self.letter(fields.profile.letter());
+        let d = self.letter(fields.direction.letter());
+        let (zone, command) = ([fields.zone], [fields.command]);
+        let (ac, data) = ([fields.answer_code], &fields.data[..]);
         let frame = samples::raw(fields.direction, fields.frame());
         self.add("frame", &[&p, &d, &frame]);
         self.add("fields", &[&d, &frame]);
@@ -199,9 +238,9 @@ impl Cases {
         let form = *self.random.pick(&[0, 1, 2, 3, 4, 5, 6, 7, 7, 7, 7, 8, 8]);
         let state = *self.random.pick(&[0x00, 0x01, 0x02, 0xFF]);
         let ends = [
-            -32768, -300, -256, -255, -129, -128, -127, -126, -114, -113, -112, -16, -15, -13, -12,
-            -11, -10, -1, 0, 1, 2, 3, 4, 5, 6, 7, 10, 11, 12, 13, 15, 16, 99, 100, 127, 128, 129,
-            138, 160, 240, 241, 242, 255, 256, 257, 32767,
+            -32768, -300, -256, -255, -129, -128, -127, -126, -114, -113, -112, -41, -40, -39, -16,
+            -15, -13, -12, -11, -10, -1, 0, 1, 2, 3, 4, 5, 6, 7, 10, 11, 12, 13, 15, 16, 99, 100,
+            127, 128, 129, 138, 160, 240, 241, 242, 255, 256, 257, 32767,
         ];
         let number = match self.random.below(5) {
             0 => self.random.next() as i16,

@@ -2,7 +2,7 @@
 
 use super::Cases;
 use crate::frame::Direction;
-use crate::rows::{Profile, ROWS};
+use crate::rows::{Profile, Row, MINUS_ZERO, ROWS};
 use crate::samples::{self, PROFILES};
 use crate::sheet::{self, Line, RECORD, RUN_ZEROS};
 
@@ -11,7 +11,7 @@ impl Cases {
     fn lines(&mut self, profile: Profile) -> Vec<Line> {
         let size = self.random.between(0, samples::most_lines(profile));
         let mut lines = samples::sheet(&mut self.random, profile, size);
-        match self.random.below(18) {
+        match self.random.below(19) {
             0 => {
                 // 13 lines and more, legal ones first.
                 let mut more = samples::full_sheet(&mut self.random, profile);
@@ -35,7 +35,8 @@ impl Cases {
                 let place = self.random.below(lines.len());
                 let other = self.random.byte();
                 lines[place].value = *self.random.pick(&[
-                    0x01, 0x02, 0x0B, 0x10, 0x64, 0x80, 0x8B, 0x90, 0xF0, 0xF1, 0xF2, 0xFF, other,
+                    0x01, 0x02, 0x0B, 0x10, 0x64, 0x80, 0x8B, 0x90, 0xA8, 0xA9, 0xF0, 0xF1, 0xF2,
+                    0xFF, other,
                 ]);
             }
             6 | 7 if !lines.is_empty() => {
@@ -47,6 +48,14 @@ impl Cases {
                     let place = self.random.below(lines.len());
                     lines[place].value = 0x80;
                 }
+            }
+            8 | 9 if !lines.is_empty() => {
+                // A sheet refuses 80, also where it reads as zero.
+                let row = *self.random.pick(&samples::minus_zero_rows(profile));
+                let place = self.random.below(lines.len());
+                lines[place].command = row.command;
+                let values = [MINUS_ZERO, MINUS_ZERO, MINUS_ZERO, 0xA8, 0xA9];
+                lines[place].value = *self.random.pick(&values);
             }
             _ => {}
         }
@@ -115,14 +124,40 @@ impl Cases {
         }
     }
 
+    /// Sheets of one line at each end of a row, and signed off by an answer of minus zero.
+    pub(super) fn signed_sheets(&mut self, row: &Row, ends: &[u8]) {
+        let zone = samples::zone(&mut self.random, row);
+        let (profile, command) = (row.profile, row.command);
+        let answer = samples::answer(zone, command, MINUS_ZERO);
+        for &value in ends {
+            let line = Line {
+                zone,
+                command,
+                value,
+            };
+            let file = sheet::records(profile, &[line]);
+            let p = self.letter(profile.letter());
+            self.add("legal", &[&p, &[zone], &[command], &[value]]);
+            self.add("check", &[&p, &file]);
+            self.add("sign", &[&p, &file, &answer]);
+        }
+        let p = self.letter(profile.letter());
+        self.add("cell", &[&p, &answer, &[zone], &[command]]);
+    }
+
     pub(super) fn history_case(&mut self) {
         let profile = self.profile();
         let size = self.random.between(0, samples::most_lines(profile));
         let lines = samples::sheet(&mut self.random, profile, size);
         let mut capture = Vec::new();
-        // What the unit said before.
+        // What the unit said before, often minus zero.
         for _ in 0..self.random.below(6) {
             capture.extend(samples::valid(&mut self.random, profile, Direction::Answer));
+        }
+        if self.random.percent(30) {
+            let row = *self.random.pick(&samples::minus_zero_rows(profile));
+            let zone = samples::zone(&mut self.random, row);
+            capture.extend(samples::answer(zone, row.command, MINUS_ZERO));
         }
         if self.random.percent(20) {
             let length = self.random.between(1, 60);
@@ -164,7 +199,9 @@ impl Cases {
     fn answers(&mut self, profile: Profile, lines: &[Line], capture: &mut Vec<u8>) {
         let mut order = lines.to_vec();
         self.random.shuffle(&mut order);
-        let good = |line: &Line| samples::answer(line.zone, line.command, line.value);
+        // Half of the units answer 80 for 00.
+        let minus = self.random.percent(50);
+        let good = |line: &Line| answer_to(profile, line, minus);
         let Some(chosen) = order.first().copied() else {
             return;
         };
@@ -178,14 +215,16 @@ impl Cases {
         let stale = samples::answer(chosen.zone, chosen.command, *self.random.pick(&values));
         let code = self.random.between(0x82, 0x86) as u8;
         let denied = samples::denied(chosen.zone, chosen.command, code);
+        // Read as zero or refused, by the chosen line's row.
+        let zero = samples::answer(chosen.zone, chosen.command, MINUS_ZERO);
         let refused = match self.random.below(3) {
-            0 => samples::answer(chosen.zone, chosen.command, 0x80),
+            0 => samples::answer(chosen.zone, chosen.command, 0x7F),
             1 => samples::answer(0, chosen.command, chosen.value),
             _ => samples::denied(chosen.zone, chosen.command, 0x81),
         };
         let all: Vec<u8> = order.iter().flat_map(good).collect();
         let without: Vec<u8> = order[1..].iter().flat_map(good).collect();
-        let parts = match self.random.below(9) {
+        let parts = match self.random.below(11) {
             0 => vec![all, stale],
             1 => vec![stale, all],
             2 => vec![without],
@@ -194,10 +233,23 @@ impl Cases {
             5 => vec![all, refused],
             6 => vec![without, refused],
             7 => vec![all.clone(), stale, all],
+            8 => vec![all, zero],
+            9 => vec![without, zero],
             _ => vec![all],
         };
         for part in parts {
             capture.extend(part);
         }
     }
+}
+
+/// A status answer with a line's value; with `minus` 80 for 00 where the row reads it so.
+fn answer_to(profile: Profile, line: &Line, minus: bool) -> Vec<u8> {
+    let rows = samples::minus_zero_rows(profile);
+    let reads = rows.iter().any(|row| row.command == line.command);
+    let value = match minus && reads && line.value == 0x00 {
+        true => MINUS_ZERO,
+        false => line.value,
+    };
+    samples::answer(line.zone, line.command, value)
 }

@@ -23,7 +23,7 @@ pub(super) fn read(p: u8, d: u8, frame: Frame, tally: &mut Tally) -> Answer {
 
 fn read_message(profile: Profile, direction: Direction, frame: Frame, tally: &mut Tally) -> Answer {
     let message = message::read(profile, direction, frame)?;
-    tally.message(profile, &message);
+    tally.message(profile, &frame, &message);
     Ok(print_message(message))
 }
 
@@ -233,4 +233,24 @@ pub(super) fn codes(p: u8, zone: u8, command: u8, data: &[u8]) -> Answer {
         })
         .collect();
     Ok(lines.join("\n"))
+}
+
+#[cfg(test)]
+mod tests {
+    use super::*;
+
+    #[test]
+    fn counted_messages_are_printed_with_the_byte_that_was_read() {
+        let mut counts = Counts::default();
+        let mut text = String::new();
+        for byte in [0x00, 0x80, 0xA8, 0xA9] {
+            counts.read(&mut text, Profile::A, Direction::Answer, (1, 0x45), &[byte]);
+        }
+        counts.print(&mut text);
+        let expected = "01 45 00 number 0
+01 45 80 number 0
+01 45 A8 number -40
+accepted 3 refused 1:0 2:0 3:0 4:1 5:0 13:0";
+        assert_eq!(text, expected);
+    }
 }
