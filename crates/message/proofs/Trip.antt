@@ -34,12 +34,12 @@ use Rattle.row.proofs.Turned.{minus-zero-promise}
 use Rattle.judging.specs.Judge.{hasLength, hasValue, judgeRules}
 use Rattle.judging.proofs.Judges.{lies-refuses, pass-row, judge-passes, passes-judge}
 use Rattle.message.specs.Content as content
-use Rattle.message.specs.Message.{isDenial, wrongCode, said, denial, readRules, messageIn, messageOf, readOf, denies, dataRead, deniedData, fromReading, frameRead}
+use Rattle.message.specs.Message.{isDenial, wrongCode, said, denial, readRules, messageIn, messageOf, readOf, isDenying, dataRead, deniedData, fromReading, frameRead}
 use Rattle.message.specs.Write.{formRules, saidRules, saidIn, saidData, notDenied, messageDirection, writeRules, messageFrame, fieldsFrame}
 use Rattle.lent.specs.Written.{writeAnswered, writeLeft}
 use Rattle.lent.proofs.Writes.{write-promise, write-passed, write-fits}
 use Rattle.message.specs.Numbers.{Paper, messagePaper}
-use Rattle.message.specs.MessagePromise.{ReadsAs, ReadsBack, IsMinusZero, BringsMinusZero, MessagePromise, zeroMessage, ZeroPromise, ZeroFramePromise}
+use Rattle.message.specs.MessagePromise.{ReadsAs, ReadsBack, FieldsAreMinusZero, BringsMinusZero, MessagePromise, zeroMessage, ZeroPromise, ZeroFramePromise}
 use Rattle.message.specs.declared.content.Content.{Content}
 use Rattle.message.specs.declared.content.Content.the-variants.{Number}
 use Rattle.message.specs.declared.read.Message.{Message}
@@ -294,17 +294,17 @@ as-written profile dir zone command ac body m a =
     }
 
 -- what is read and does not deny is judged
-judged-read : (profile : Profile) (dir : Direction) (zone command ac : ℕ) (body : List ℕ) → refuses (readRules profile dir zone command ac body) ≡ false → denies dir ac ≡ false
+judged-read : (profile : Profile) (dir : Direction) (zone command ac : ℕ) (body : List ℕ) → refuses (readRules profile dir zone command ac body) ≡ false → isDenying dir ac ≡ false
     → refuses (judgeRules profile dir zone command body) ≡ false
 judged-read profile Command zone command ac body e d = e
 judged-read profile Answer zone command ac body e d = rw d at (pass-first (wrongCode ac) (cond (isDenial ac) (tooLong body ∷ []) (judgeRules profile Answer zone command body)) e .1)
 
 -- what is read is minus zero, or its data are as they came
 zero-or-kept : (profile : Profile) (dir : Direction) (zone command ac : ℕ) (body : List ℕ) → refuses (readRules profile dir zone command ac body) ≡ false
-    → IsMinusZero profile dir command ac body ⊎ (dataRead profile dir command ac body ≡ body)
-zero-or-kept profile dir zone command ac body e = go (denies dir ac) refl
+    → FieldsAreMinusZero profile dir command ac body ⊎ (dataRead profile dir command ac body ≡ body)
+zero-or-kept profile dir zone command ac body e = go (isDenying dir ac) refl
   where
-    go : (t : Bool) → denies dir ac ≡ t → IsMinusZero profile dir command ac body ⊎ (cond t body (map (normalIn (rowOf profile command)) body) ≡ body)
+    go : (t : Bool) → isDenying dir ac ≡ t → FieldsAreMinusZero profile dir command ac body ⊎ (cond t body (map (normalIn (rowOf profile command)) body) ≡ body)
     go true d = inr refl
     go false d =
         let p = judge-passes profile dir zone command body (judged-read profile dir zone command ac body e d) in
@@ -312,12 +312,12 @@ zero-or-kept profile dir zone command ac body e = go (denies dir ac) refl
         by-data (p .row) there (zero-or-same (p .row) dir (row-tidy profile command (p .row) there dir) body (rw (p .long) (p .value)))
       where
         by-data : (row : Row) → rowOf profile command ≡ found.Row row → ((body ≡ 0x80 ∷ []) × (row .signed ≡ true)) ⊎ (map (normal row) body ≡ body)
-            → IsMinusZero profile dir command ac body ⊎ (map (normalIn (rowOf profile command)) body ≡ body)
+            → FieldsAreMinusZero profile dir command ac body ⊎ (map (normalIn (rowOf profile command)) body ≡ body)
         by-data row there (inl (load, s)) = inl (record { row = row; there = there; zero = s; load = load; accepts = d })
         by-data row there (inr same) = inr (ap (λ (f : Found). map (normalIn f) body) there ∙ same)
 
 read-long : (profile : Profile) (dir : Direction) (command ac : ℕ) (body : List ℕ) → length (dataRead profile dir command ac body) ≡ length body
-read-long profile dir command ac body = go (denies dir ac)
+read-long profile dir command ac body = go (isDenying dir ac)
   where
     go : (t : Bool) → length (cond t body (map (normalIn (rowOf profile command)) body)) ≡ length body
     go true = refl
@@ -325,14 +325,14 @@ read-long profile dir command ac body = go (denies dir ac)
 
 -- fields and data that are read as a message
 module _ (profile : Profile) (dir : Direction) (zone command ac : ℕ) (body : List ℕ) (m : Message) (e : readOf profile dir zone command ac body ≡ reading.Message m) where
-  kept : (IsMinusZero profile dir command ac body → ⊥) → fieldsFrame profile dir zone command ac body ≡ frameOf dir zone command ac body
+  kept : (FieldsAreMinusZero profile dir command ac body → ⊥) → fieldsFrame profile dir zone command ac body ≡ frameOf dir zone command ac body
   kept other = go (zero-or-kept profile dir zone command ac body (read-passes profile dir zone command ac body m e .0))
     where
-      go : IsMinusZero profile dir command ac body ⊎ (dataRead profile dir command ac body ≡ body) → fieldsFrame profile dir zone command ac body ≡ frameOf dir zone command ac body
+      go : FieldsAreMinusZero profile dir command ac body ⊎ (dataRead profile dir command ac body ≡ body) → fieldsFrame profile dir zone command ac body ≡ frameOf dir zone command ac body
       go (inl z) = absurd (other z)
       go (inr same) = ap (frameOf dir zone command ac) same
 
-  module _ (z : IsMinusZero profile dir command ac body) where
+  module _ (z : FieldsAreMinusZero profile dir command ac body) where
     turned : fieldsFrame profile dir zone command ac body ≡ frameOf dir zone command ac (0x00 ∷ [])
     turned =
         let zero : normal (z .row) 0x80 ≡ 0x00 = minus-zero-promise .turned (z .row) (z .zero) in
@@ -341,7 +341,7 @@ module _ (profile : Profile) (dir : Direction) (zone command ac : ℕ) (body : L
     is-zero : content.contentOf dir (z .row) body ≡ Number (pos 0)
     is-zero = ap (content.contentOf dir (z .row)) (z .load) ∙ zero-content (z .row) dir (z .zero)
 
-    zero-is : (d : Direction) → denies d ac ≡ false → content.contentOf d (z .row) body ≡ Number (pos 0) → messageOf profile d zone command ac body ≡ reading.Message (zeroMessage d zone command)
+    zero-is : (d : Direction) → isDenying d ac ≡ false → content.contentOf d (z .row) body ≡ Number (pos 0) → messageOf profile d zone command ac body ≡ reading.Message (zeroMessage d zone command)
     zero-is Command a c =
         in-row (rowOf profile command) (z .row) _ (z .there) ∙ ap (λ (x : Content). reading.Message (message.Command (record { zone = zone; command = command; content = x }))) c
     zero-is Answer a c =
@@ -437,7 +437,7 @@ module _ (profile : Profile) (dir : Direction) (bytes : List ℕ) (m : Message) 
   pub zero-frame-promise : (z : BringsMinusZero profile dir bytes) → ZeroFramePromise profile dir bytes z m e
   zero-frame-promise z =
       let zero = zero-promise profile dir (f .zone) (f .command) (f .answer) body m (whole .1) (rw data-is at z) in
-      record { again = λ buf at room. left-again buf at room ∙ ap (placed buf at) (zero .turned); back = zero .back }
+      record { says = zero .says; again = λ buf at room. left-again buf at room ∙ ap (placed buf at) (zero .turned); back = zero .back }
 
 pub message-promise : MessagePromise
 message-promise = record {

@@ -64,14 +64,14 @@ readOf profile dir zone command ac body =
     ruled (readRules profile dir zone command ac body) reading.Refused (messageOf profile dir zone command ac body)
 
 -- does the answer code deny; a command has none
-abbrev pub denies : Direction → ℕ → Bool
-denies Command ac = false
-denies Answer ac = isDenial ac
+abbrev pub isDenying : Direction → ℕ → Bool
+isDenying Command ac = false
+isDenying Answer ac = isDenial ac
 
 -- the data as the message has them: document 02, C-14: "80 in these rows .. is written as 00 and reads back as 00"; of a denied one
 -- "as they came"
 abbrev pub dataRead : Profile → Direction → ℕ → ℕ → List ℕ → List ℕ
-dataRead profile dir command ac body = cond (denies dir ac) body (map (normalIn (rowOf profile command)) body)
+dataRead profile dir command ac body = cond (isDenying dir ac) body (map (normalIn (rowOf profile command)) body)
 
 -- the data of a denied message, as they came; the other messages have theirs in their content
 abbrev pub deniedData : Message → List ℕ → List ℕ

@@ -1,5 +1,5 @@
--- Promise: document 02, C-14, evaluated as one table: frames for each of its sentences, with what is written for each, and what was refused
--- before and is still.
+-- Promise: document 02, C-14, evaluated as one table: frames for each of its sentences on reading and writing, what is written for fields
+-- that are handed over, and what was refused before and is still.
 use mathlib.Core.Path.{_≡_}
 use mathlib.Core.List.{List, [], _∷_, map}
 use Prim.Native.Nat.{ℕ}
@@ -82,7 +82,7 @@ handedOver =
     ∷ handed A Answer 0x3A 0x84 (0x80 ∷ 0x80 ∷ []) (0x21 ∷ 0x01 ∷ 0x3A ∷ 0x84 ∷ 0x02 ∷ 0x80 ∷ 0x80 ∷ 0x0D ∷ [])
     ∷ []
 
--- that none of the rules applies is 0
+-- the number that the rules of reading give; 0 where none applies
 abbrev pub handedNumber : Handed → ℕ
 handedNumber h = ruled (readRules (h .profile) (h .dir) 0x01 (h .command) (h .answer) (h .load)) (λ n. n) 0
 

@@ -118,7 +118,7 @@ fn is_off(row: Row, code: u8) -> bool
     row.off
 }
 
-// The data that say something in a row.
+// The data that say something in a row; nothing is checked, also not whether the row can say it.
 pub fn encode(row: Row, content: Content) -> Encoded
     ensures { λ r. ⌜ r ≡ encodedOf row content ⌝ }
 {

@@ -1,4 +1,5 @@
 pub mod Repeats
 pub mod Faults
 pub mod Sheets
+pub mod Values
 pub mod OneAnswer

@@ -1,6 +1,6 @@
 -- Promise: a sheet that is not accepted gives its refusal and no sign-off; an accepted one is signed off exactly when every line's
 -- cell is known and equal; and that is exactly when each line's value is that of the last status answer of its zone and row, among
--- the answers fed in since the tracker was made new.
+-- the answers fed in since the tracker was made new; an answered 80 shows 00 where it is zero (`Last`).
 use mathlib.Core.Path.{_≡_}
 use mathlib.Core.List.{List}
 use Prim.Native.Nat.{ℕ}

@@ -5,14 +5,14 @@ use mathlib.Core.List.{List, [], _∷_}
 use mathlib.Core.Logic.{inl, inr}
 use Prim.Native.Nat.{ℕ, _<_}
 use native.Mathlib.Omega.{arith}
-use borrow.Author.Tests.{not-true}
+use borrow.Author.Tests.{not-true, eqb-true}
 use lib.Dec.{T, eqb, leb}
 use lib.IntN.{ℤ, pos, negsuc, sucℤ, predℤ}
 use lib.ListN.{getD}
 use lib.Signed.{leZ, leZ-yes}
 use Rattle.frame.specs.declared.direction.Direction.the-variants.{Command}
 use Rattle.frame.proofs.Cases.{cases}
-use Rattle.row.specs.MinusZero.{normal}
+use Rattle.row.specs.MinusZero.{isMinusZero, normal}
 use Rattle.row.specs.Signed.{numberOf, codeOf, plainCodeOf}
 use Rattle.row.specs.Table.{table, rowOf}
 use Rattle.row.specs.declared.profile.Profile.{Profile}
@@ -135,6 +135,22 @@ one-code number.NoCode c e = cc
 number-is : (row : Row) (z : ℤ) (c : ℕ) → numberCode row z ≡ One c → numberIn row c ≡ z
 number-is row z c e = number-of (row .signed) z c (one-code _ c e)
 
+-- and it is never minus zero: 0 has the code 00
+code-other : (row : Row) (z : ℤ) (c : ℕ) → numberCode row z ≡ One c → isMinusZero row c ≡ false
+unfolding numberOf codeOf
+code-other row z c e = go (eqb c 0x80) (row .signed) refl refl
+  where
+    zero-not : number.Code 0x00 ≡ number.Code 0x80 → ⊥
+    zero-not f = let same : _≡_ {A = ℕ} 0x00 0x80 = cc in omega (arith, same)
+
+    go : (t u : Bool) → eqb c 0x80 ≡ t → row .signed ≡ u → t && u ≡ false
+    go false u f s = refl
+    go true false f s = refl
+    go true true f s =
+        let coded : codeOf z ≡ number.Code 0x80 =
+        sym (ap (λ (t : Bool). cond t (codeOf z) (plainCodeOf z)) s) ∙ one-code _ c e ∙ ap number.Code (eqb-true c 0x80 f) in
+        absurd (zero-not (ap codeOf (signed-promise .number-code z 0x80 coded) ∙ coded))
+
 -- data of one byte are its code
 coded-is : (x : Encoded) (v w : ℕ) → encodedData x ≡ w ∷ [] → coded x v ≡ w
 coded-is (One c) v w e = ap (λ (l : List ℕ). getD l 0 0) e
@@ -149,7 +165,7 @@ module _ (profile : Profile) (command : ℕ) (row : Row) (there : rowOf profile 
   landing : (z : ℤ) (v : ℕ) (End : Type 0) (x : Encoded) → numberCode row z ≡ x → (hasCode row x ≡ true → notOff row x ≡ true) → (hasCode row x ≡ false → End)
       → Steps row v (landed row x v) z End
   landing z v End (One c) e on end =
-      cases (λ (w : ℕ). Steps row v w z End) (isAnswer row c) (λ a. inl (number-is row z c e, (a, not-true _ (on a)))) (λ a. inr (refl, end a))
+      cases (λ (w : ℕ). Steps row v w z End) (isAnswer row c) (λ a. inl (number-is row z c e, (a, not-true _ (on a)), code-other row z c e)) (λ a. inr (refl, end a))
   landing z v End (Two b c) e on end = inr (refl, end refl)
   landing z v End NoCode e on end = inr (refl, end refl)
 

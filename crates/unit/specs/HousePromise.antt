@@ -7,7 +7,7 @@ use mathlib.Core.Logic.{_⊎_}
 use lib.IntN.{ℤ, sucℤ, predℤ}
 use lib.Signed.{_≤ℤ_}
 use Rattle.frame.specs.declared.direction.Direction.the-variants.{Command}
-use Rattle.row.specs.MinusZero.{normal}
+use Rattle.row.specs.MinusZero.{isMinusZero, normal}
 use Rattle.row.specs.Table.{rowOf}
 use Rattle.row.specs.declared.profile.Profile.{Profile}
 use Rattle.row.specs.declared.table.Row.{Row}
@@ -29,9 +29,9 @@ Highest row v = (w : ℕ) → IsNumber row w → numberIn row w ≤ℤ numberIn 
 abbrev pub Lowest : Row → ℕ → Type 0
 Lowest row v = (w : ℕ) → IsNumber row w → numberIn row v ≤ℤ numberIn row w
 
--- a step to the next number, or none at the end
+-- a step to the next number, which is held as its own code and never as 80, or none at the end
 abbrev pub Steps : Row → ℕ → ℕ → ℤ → Type 0 → Type 0
-Steps row v w next End = ((numberIn row w ≡ next) × IsNumber row w) ⊎ ((w ≡ v) × End)
+Steps row v w next End = ((numberIn row w ≡ next) × IsNumber row w × (isMinusZero row w ≡ false)) ⊎ ((w ≡ v) × End)
 
 pub record HousePromise (profile : Profile) (command : ℕ) (row : Row) (there : rowOf profile command ≡ found.Row row) : Type 0 where
   -- "A step moves the value by one, in signed rows the signed value"; "a step past either end leaves the value"

@@ -1,4 +1,5 @@
--- Document 01, 'The unit': "one legal answer value per row and zone (S 0F: a value per input and a current input ..)".
+-- Document 01, 'The unit': "one legal answer value per row and zone (S 0F: a value per input and a current input ..)"; 80, too, where it
+-- is a legal answer (document 02, C-14).
 use Prim.Native.Nat.{ℕ}
 use mathlib.Core.Path.{_≡_}
 use mathlib.Core.Bool.{true, false}

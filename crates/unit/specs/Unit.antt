@@ -60,14 +60,14 @@ pub record Unit : Type 0 where
   pub taken : List ℕ
   pub settings : Settings
 
--- what a cell's value is compared by: in its row, what it is turned into
+-- what a cell's value is compared by: 80 counts as 00 in the rows where it is zero, and every other value is itself
 abbrev pub compared : Profile → Setting → ℕ → ℕ
 compared profile (value zone command) v = normalIn (rowOf profile command) v
 compared profile (input i) v = v
 compared profile current v = v
 
--- wherever a promise compares a unit's setting with a value, it is by this: document 02, C-14: "wherever a unit's setting is compared,
--- 80 and 00 are the same value"
+-- a setting holds a value: demand 3, the truth of what is known and what a sign-off says of the unit are stated by this; what a frame does
+-- to a unit is stated to the byte. Document 02, C-14: "wherever a unit's setting is compared, 80 and 00 are the same value"
 abbrev pub Holds : Unit → Setting → ℕ → Type 0
 Holds u x v = compared (u .profile) x (u .settings x) ≡ compared (u .profile) x v
 

@@ -135,9 +135,11 @@ trials =
     ∷ makes A 0x3A 0x80 0x80 0x00
     ∷ makes A 0x45 0x85 0x80 0x00
     ∷ makes A 0x46 0x05 0x80 0x00
-    -- up from 81 is 00, never 80
+    -- a step to 0 is held as 00, never 80
     ∷ makes A 0x45 0x81 0xF1 0x00
     ∷ makes A 0x46 0x81 0xF1 0x00
+    ∷ makes A 0x3A 0x01 0xF2 0x00
+    ∷ makes A 0x46 0x01 0xF2 0x00
     -- "A 45 runs to A8"
     ∷ makes A 0x45 0x8A 0xF2 0x8B
     ∷ makes A 0x45 0xA8 0xF1 0xA7
@@ -175,5 +177,5 @@ abbrev pub tabled : Trial → Outcome
 tabled t = record { answered = t .answered; holds = t .holds; now = t .now }
 
 pub record UnitTablePromise : Type 0 where
-  pub all : length trials ≡ 85
+  pub all : length trials ≡ 87
   pub holds : map came trials ≡ map tabled trials
