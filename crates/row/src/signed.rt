@@ -1,4 +1,4 @@
-// The ways between a code and the number it means.
+// The ways between a code and the number it means, and the code that is minus zero.
 use crate::table::Row;
 ghost use mathlib.Core.Path.{_≡_};
 ghost use Rattle.row.specs.Signed.{numberOf, codeOf, plainCodeOf};

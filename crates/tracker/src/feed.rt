@@ -74,7 +74,7 @@ fn with_status(tracker: Tracker, zone: u8, command: u8, content: Content) -> Tra
     next
 }
 
-// The first byte of the data that say something in a row: it is never minus zero; 0 where there is none.
+// The first byte of the data that say something in a row, 0 where there is none: 00 for a number 0, never 80.
 fn first_byte(row: Row, content: Content) -> u8
     ensures { λ r. ⌜ r ≡ firstByte row content ⌝ }
 {
