@@ -1,6 +1,6 @@
 -- Promise: document 01, 'Tracker': "A status answer, one accepted with Ac 00, makes its one cell known; a denied message, S 0F and
--- a refused frame change nothing." A status is known by its one byte, 80 as 00 in the rows of document 02's C-14; every other row and zone is known as before, and the profile
--- is the one that the tracker was made for.
+-- a refused frame change nothing." A status is known by its one byte, 80 as 00 in the rows of document 02's C-14; every other row and
+-- zone is known as before, and the profile is the one that the tracker was made for.
 use mathlib.Core.Path.{_≡_}
 use mathlib.Core.List.{List, [], _∷_}
 use Prim.Native.Nat.{ℕ}
