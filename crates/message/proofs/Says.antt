@@ -98,16 +98,13 @@ module _ (row : Row) where
       inr (rw (minus-zero-promise .unsigned row b plain, minus-zero-promise .unsigned row c plain))
   zero-or-same dir tidy (b ∷ c ∷ d ∷ rest) legal = let none : false ≡ true = sym (no-longer dir (length rest)) ∙ both (hasLength dir row (suc (suc (suc (length rest))))) (hasValue dir row (b ∷ c ∷ d ∷ rest)) legal .0 in inr cc
 
-  -- 80 says 0 in a signed row, as 00 does
-  pub zero-content : (dir : Direction) → row .signed ≡ true → contentOf dir row (0x80 ∷ []) ≡ Number (pos 0)
+  -- 80 and 00 say 0 in a signed row
+  pub zero-content : (dir : Direction) (minus : Bool) → row .signed ≡ true → contentOf dir row (cond minus 0x80 0x00 ∷ []) ≡ Number (pos 0)
   unfolding contentOf numberOf
-  zero-content Command s = rw s
-  zero-content Answer s = rw s
-
-  zero-says : (dir : Direction) → row .signed ≡ true → contentOf dir row (0x00 ∷ []) ≡ Number (pos 0)
-  unfolding contentOf numberOf
-  zero-says Command s = rw s
-  zero-says Answer s = rw s
+  zero-content Command true s = rw s
+  zero-content Command false s = rw s
+  zero-content Answer true s = rw s
+  zero-content Answer false s = rw s
 
   zero-legal : (dir : Direction) → Tidy dir row → row .signed ≡ true → hasByte dir row 0x80 ≡ true → hasByte dir row 0x00 ≡ true
   zero-legal Command tidy s e = let v : valueByte Command row 0x00 ≡ true = rw s at (tidy .turned 0x80 (former _ _ e refl)) in rw v
@@ -124,7 +121,7 @@ module _ (row : Row) where
       zero : row .signed ≡ true → hasData dir row (0x80 ∷ []) ≡ true → Stands (normal row 0x80 ∷ []) (0x80 ∷ [])
       zero s h =
           let (long, fits) = both (hasLength dir row 1) (hasByte dir row 0x80) h in
-          rw (minus-zero-promise .turned row s) (rw (long, zero-legal dir tidy s fits), zero-says dir s ∙ sym (zero-content dir s))
+          rw (minus-zero-promise .turned row s) (rw (long, zero-legal dir tidy s fits), zero-content dir false s ∙ sym (zero-content dir true s))
 
       go : ((body ≡ 0x80 ∷ []) × (row .signed ≡ true)) ⊎ (map (normal row) body ≡ body) → Stands (map (normal row) body) body
       go (inl (e, s)) = subst (λ (l : List ℕ). Stands (map (normal row) l) l) (sym e) (zero s (rw e at legal))

@@ -339,7 +339,7 @@ module _ (profile : Profile) (dir : Direction) (zone command ac : ℕ) (body : L
         ap (frameOf dir zone command ac) (rw (z .accepts, z .there, z .load, zero))
 
     is-zero : content.contentOf dir (z .row) body ≡ Number (pos 0)
-    is-zero = ap (content.contentOf dir (z .row)) (z .load) ∙ zero-content (z .row) dir (z .zero)
+    is-zero = ap (content.contentOf dir (z .row)) (z .load) ∙ zero-content (z .row) dir true (z .zero)
 
     zero-is : (d : Direction) → isDenying d ac ≡ false → content.contentOf d (z .row) body ≡ Number (pos 0) → messageOf profile d zone command ac body ≡ reading.Message (zeroMessage d zone command)
     zero-is Command a c =

@@ -110,7 +110,7 @@ answer-unspoilt profile command row there b e =
     not-true _ (rw e at (upto-at 256 (unspoilt row) all b (code-byte (row .answers) (row .answers2) bytes b e)))
 
 -- a cell that is made known
-abbrev withByte : Tracker → ℕ → ℕ → Tracker
+abbrev pub withByte : Tracker → ℕ → ℕ → Tracker
 withByte t cell b = record { profile = t .profile; states = set (t .states) cell knownState; values = set (t .values) cell b }
 
 pub made : (t : Tracker) (zone : ℕ) (row : Row) (c : Content) → row .pair ≡ false → madeKnown t zone (judged.Legal row) c ≡ withByte t (cellOf row zone) (firstByte row c)

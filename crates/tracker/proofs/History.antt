@@ -7,7 +7,7 @@ use Prim.Native.Nat.{ℕ, zero, suc}
 use native.Mathlib.Omega.{arith}
 use borrow.Author.Tests.{eqb-true, eqb-false}
 use lib.Dec.{eqb}
-use lib.ListN.{length-set, getD, set, replicate}
+use lib.ListN.{length-set, getD, replicate}
 use Rattle.lists.specs.Each.{Each}
 use Rattle.frame.specs.declared.direction.Direction.the-variants.{Answer}
 use Rattle.row.specs.declared.profile.Profile.{Profile}
@@ -30,7 +30,7 @@ use Rattle.tracker.specs.FeedPromise.{Whole, FeedsPromise}
 use Rattle.tracker.specs.HistoryPromise.{IsStatus, Last, HistoryPromise}
 use Rattle.tracker.specs.declared.tracker.Tracker.{Tracker}
 use Rattle.tracker.specs.declared.tracker.Kept.the-variants.{Value, Unknown}
-use Rattle.tracker.proofs.Feeds.{settle, after-status, feed-promise}
+use Rattle.tracker.proofs.Feeds.{withByte, settle, after-status, feed-promise}
 
 -- a tracker of a profile with all of its cells
 abbrev pub Fit : Profile → Tracker → Type 0
@@ -38,7 +38,7 @@ Fit profile t = (t .profile ≡ profile) × Whole t
 
 fit-put : (profile : Profile) (t : Tracker) (zone : ℕ) (j : Judged) (c : Content) → Fit profile t → Fit profile (madeKnown t zone j c)
 fit-put profile t zone (judged.Legal row) c f =
-    elim (row .pair) as (λ p. Fit profile (cond p t (record { profile = t .profile; states = set (t .states) (cellOf row zone) knownState; values = set (t .values) (cellOf row zone) (firstByte row c) })))
+    elim (row .pair) as (λ p. Fit profile (cond p t (withByte t (cellOf row zone) (firstByte row c))))
     [ true ↦ f | false ↦ (f .0, (length-set (t .states) (cellOf row zone) knownState ∙ f .1 .0, length-set (t .values) (cellOf row zone) (firstByte row c) ∙ f .1 .1)) ]
 fit-put profile t zone (judged.Refused n) c f = f
 

@@ -89,7 +89,7 @@ brought-append u (b ∷ bs) rest =
     ∙ ap (λ (xs : List BroughtAnswer). xs ++ broughtBy rest) (sym (done-splits u b (replies (takes u b) bs)))
 
 -- what is known is true of these settings
-abbrev pub True : Profile → Tracker → Settings → Type 0
+abbrev True : Profile → Tracker → Settings → Type 0
 True profile t s = (zone command b : ℕ) → keptIn t zone command ≡ kept.Value b → compared profile (value zone command) (s (value zone command)) ≡ compared profile (value zone command) b
 
 value-same : (a b : ℕ) → kept.Value a ≡ kept.Value b → a ≡ b
