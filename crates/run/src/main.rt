@@ -1,14 +1,13 @@
 // Writes the run of a sheet file to standard output, ready for a serial port.
 //   run PROFILE SHEET
+use sheetfile::write::RUN_ROOM;
 use sheetfile::write::SheetWritten;
 
 const OUT: i32 = 1;
 
 const ERR: i32 = 2;
-// More bytes than any sheet file has that is accepted: twelve records have 72.
+// More bytes than any sheet file has that is accepted.
 const LONG: usize = 65536;
-// The longest run: 256 zeros and twelve frames.
-const RUN: usize = 328;
 // What stands for a length where a file can't be read.
 const BAD: usize = 18446744073709551615;
 
@@ -34,7 +33,7 @@ fn main() {
 }
 
 fn write_run(letter: u8, file: &[u8]) {
-    let mut run = [0u8; RUN];
+    let mut run = [0u8; RUN_ROOM];
     match sheetfile::by_letter::run_of_file(letter, file, &mut run, 0) {
         SheetWritten::Bytes(count) => {
             io::write_all(OUT, lent::part::bytes_at(&run, 0, count));

@@ -23,7 +23,7 @@ lowestFault profile earlier [] = Accepted
 lowestFault profile earlier (l ∷ ls) =
     ruled (faults profile earlier l) (λ n. Refused n (length earlier)) (lowestFault profile (earlier ++ l ∷ []) ls)
 
--- 6: "sheet of more than 12 lines"; its place is the limit
+-- 6: a sheet of more lines than the limit; document 02, C-15: "6 now from 25 lines"; its place is the limit
 abbrev pub overLimit : List Line → Verdict
 overLimit ls = ruled (rule 6 (ltb sheetLimit (length ls)) ∷ []) (λ n. Refused n sheetLimit) Accepted
 

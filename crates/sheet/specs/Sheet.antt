@@ -8,9 +8,9 @@ use lib.ListN.{take, set, replicate}
 use Rattle.sheet.specs.declared.line.Line.{Line}
 use Rattle.sheet.specs.declared.sheet.Sheet.{Sheet}
 
--- "sheet of more than 12 lines"
+-- document 02, C-15: "Raise the limit to 24"
 abbrev pub sheetLimit : ℕ
-sheetLimit = 12
+sheetLimit = 24
 
 abbrev pub noLine : Line
 noLine = record { zone = 0; command = 0; value = 0 }

@@ -3,7 +3,7 @@ ghost use mathlib.Core.Path.{_≡_};
 ghost use Rattle.sheet.specs.Sheet.{noLines, withLine};
 
 // The most lines that a sheet may have.
-pub const SHEET_LIMIT: usize = 12;
+pub const SHEET_LIMIT: usize = 24;
 
 // The lines of a sheet, by value. A count over the limit stands for any longer sheet: past the limit no
 // line is kept.

@@ -5,6 +5,7 @@ use Prim.Native.Nat.{ℕ}
 use lib.ListN.{take, drop, replicate}
 use Rattle.frame.specs.Frame.{frameOf}
 use Rattle.row.specs.Table.{table, firstRow}
+use Rattle.row.specs.declared.profile.Profile.{Profile}
 use Rattle.row.specs.declared.profile.Profile.the-variants.{A, S}
 use Rattle.judging.specs.Judge.{rowJudged}
 use Rattle.sheet.specs.Line.{isLegal, isRepeated}
@@ -16,16 +17,17 @@ use Rattle.sheet.specs.declared.line.Line.{Line}
 use Rattle.sheet.specs.declared.check.Verdict.{Verdict}
 use Rattle.sheet.specs.declared.check.Verdict.the-variants.{Accepted, Refused}
 
-abbrev line : ℕ → ℕ → ℕ → Line
+abbrev pub line : ℕ → ℕ → ℕ → Line
 line zone command value = record { zone = zone; command = command; value = value }
 
--- twelve lines of A: four rows in three zones
-abbrev twelve : List Line
-twelve =
-    line 1 0x38 0x02 ∷ line 2 0x38 0x00 ∷ line 3 0x38 0x01
-    ∷ line 1 0x39 0xFF ∷ line 2 0x39 0x0A ∷ line 3 0x39 0x00
+-- document 02, C-15: "A full profile A sheet has fifteen lines": all of its sheet rows in three zones; no value is 00
+abbrev pub fifteen : List Line
+fifteen =
+    line 1 0x38 0x02 ∷ line 2 0x38 0x01 ∷ line 3 0x38 0x02
+    ∷ line 1 0x39 0xFF ∷ line 2 0x39 0x0A ∷ line 3 0x39 0x05
     ∷ line 1 0x3A 0x85 ∷ line 2 0x3A 0x0F ∷ line 3 0x3A 0x8F
-    ∷ line 1 0x46 0x8A ∷ line 2 0x46 0x0A ∷ line 3 0x46 0x00
+    ∷ line 1 0x45 0x8A ∷ line 2 0x45 0x81 ∷ line 3 0x45 0xA8
+    ∷ line 1 0x46 0x8A ∷ line 2 0x46 0x0A ∷ line 3 0x46 0x81
     ∷ []
 
 -- eight lines of S: all of its sheet rows in both zones
@@ -37,9 +39,9 @@ eight =
     ∷ line 1 0x5C 0x63 ∷ line 2 0x5C 0x00
     ∷ []
 
-pub twelve-accepted : sheetVerdict A twelve ≡ Accepted
+pub fifteen-accepted : sheetVerdict A fifteen ≡ Accepted
 unfolding sheetVerdict lowestFault isLegal isRepeated rowJudged firstRow table
-twelve-accepted = refl
+fifteen-accepted = refl
 
 pub eight-accepted : sheetVerdict S eight ≡ Accepted
 unfolding sheetVerdict lowestFault isLegal isRepeated rowJudged firstRow table
@@ -49,11 +51,22 @@ pub none-accepted : sheetVerdict A [] ≡ Accepted
 unfolding sheetVerdict lowestFault
 none-accepted = refl
 
--- 6 before all, with the limit; the lowest fault; 7 before 8 on one line
-pub thirteen-refused : sheetVerdict A (replicate 13 (line 9 0x99 0x00)) ≡ Refused 6 12
-unfolding sheetVerdict lowestFault isLegal isRepeated rowJudged firstRow table
-thirteen-refused = refl
+-- 16 to 24 lines are within the limit, and more than a family has zones and sheet rows for: what the first so many of some lines are
+abbrev longer : Profile → List Line → List Verdict
+longer profile ls =
+    map (λ (n : ℕ). sheetVerdict profile (take n ls)) (16 ∷ 17 ∷ 18 ∷ 19 ∷ 20 ∷ 21 ∷ 22 ∷ 23 ∷ 24 ∷ [])
 
+-- behind a full sheet its lines again are 8, and lines that are not legal 7, at the first line too many
+pub repeats-refused : (longer A (fifteen ++ fifteen) ≡ replicate 9 (Refused 8 15)) × (longer S (eight ++ eight ++ eight) ≡ replicate 9 (Refused 8 8))
+unfolding sheetVerdict lowestFault isLegal isRepeated rowJudged firstRow table
+repeats-refused = (refl, refl)
+
+pub illegal-refused : (longer A (fifteen ++ replicate 9 (line 4 0x38 0x02)) ≡ replicate 9 (Refused 7 15))
+    × (longer S (eight ++ replicate 16 (line 3 0x0D 0x0D)) ≡ replicate 9 (Refused 7 8))
+unfolding sheetVerdict lowestFault isLegal isRepeated rowJudged firstRow table
+illegal-refused = (refl, refl)
+
+-- the lowest fault; 7 before 8 on one line
 pub lowest-refused : sheetVerdict A (line 1 0x38 0x02 ∷ line 1 0x38 0x01 ∷ line 1 0x37 0x00 ∷ []) ≡ Refused 8 1
 unfolding sheetVerdict lowestFault isLegal isRepeated rowJudged firstRow table
 lowest-refused = refl
@@ -107,11 +120,12 @@ filesJudged =
     ∷ fileVerdict A (0x53 ∷ 0x4C ∷ 0x53 ∷ 0x01 ∷ 0x0D ∷ 0x0D ∷ [])
     ∷ fileVerdict A (0x53 ∷ 0x4C ∷ 0x41 ∷ 0x01 ∷ 0x38 ∷ 0x02 ∷ 0x53 ∷ [])
     ∷ fileVerdict A (0x53 ∷ 0x4D ∷ 0x41 ∷ 0x01 ∷ 0x38 ∷ 0x02 ∷ [])
-    ∷ fileVerdict A (fileOf A (replicate 13 (line 1 0x38 0x02)))
-    ∷ fileVerdict A (fileOf A (replicate 13 (line 1 0x38 0x02)) ++ 0x53 ∷ 0x4C ∷ 0x53 ∷ 0x01 ∷ 0x0D ∷ 0x0D ∷ [])
-    ∷ fileVerdict A (fileOf A twelve)
+    ∷ fileVerdict A (fileOf A (replicate 24 (line 1 0x38 0x02)))
+    ∷ fileVerdict A (fileOf A (replicate 25 (line 1 0x38 0x02)))
+    ∷ fileVerdict A (fileOf A (replicate 25 (line 1 0x38 0x02)) ++ 0x53 ∷ 0x4C ∷ 0x53 ∷ 0x01 ∷ 0x0D ∷ 0x0D ∷ [])
+    ∷ fileVerdict A (fileOf A fifteen)
     ∷ []
 
-pub files-judged : filesJudged ≡ Accepted ∷ Refused 10 0 ∷ Refused 10 1 ∷ Refused 10 0 ∷ Refused 6 12 ∷ Refused 10 13 ∷ Accepted ∷ []
+pub files-judged : filesJudged ≡ Accepted ∷ Refused 10 0 ∷ Refused 10 1 ∷ Refused 10 0 ∷ Refused 8 1 ∷ Refused 6 24 ∷ Refused 10 25 ∷ Accepted ∷ []
 unfolding fileVerdict lowestWrong records linesIn inOrder sheetVerdict lowestFault isLegal isRepeated rowJudged firstRow table
 files-judged = refl

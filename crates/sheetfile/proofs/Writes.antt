@@ -17,6 +17,7 @@ use Rattle.sheetfile.specs.Run.{flush, runOf}
 use Rattle.sheetfile.specs.Written.{asSheet, sheetAnswered, sheetLeft, fileLeft, sheetWrittenNumber, sheetWrittenCount}
 use Rattle.sheetfile.specs.WrittenPromise.{WrittenPromise, SizePromise}
 use Rattle.sheet.specs.declared.line.Line.{Line}
+use Rattle.sheet.proofs.Sheets.{sheet-promise}
 use Rattle.sheet.specs.declared.check.Verdict.{Verdict}
 use Rattle.sheet.specs.declared.check.Verdict.the-variants as verdict
 use Rattle.sheetfile.specs.declared.write.Form.the-variants as form
@@ -95,6 +96,7 @@ file-length profile ls = omega (arith, sheet-length form.File profile ls)
 pub size-promise : (profile : Profile) (ls : List Line) → SizePromise profile ls
 size-promise profile ls = record {
   run = run-length profile ls;
+  room = λ e. omega (arith, run-length profile ls, sheet-promise profile ls .only e .0);
   file = file-length profile ls;
   back = λ buf at e h.
       let w = trip-read profile ls e in (

@@ -5,7 +5,7 @@ use mathlib.Core.List.{List}
 use Prim.Native.Nat.{ℕ, _+_, _*_, _≤_, _<_}
 use lib.ListN.{length, take, drop}
 use Rattle.row.specs.declared.profile.Profile.{Profile}
-use Rattle.sheet.specs.Sheet.{linesOf}
+use Rattle.sheet.specs.Sheet.{sheetLimit, linesOf}
 use Rattle.sheet.specs.Check.{sheetVerdict}
 use Rattle.sheetfile.specs.File.{recordSize, fileOf, fileRead}
 use Rattle.sheetfile.specs.Run.{flush, runOf}
@@ -28,9 +28,11 @@ pub record WrittenPromise (v : Verdict) (buf : List ℕ) (at : ℕ) (bytes : Lis
   pub before : take at (sheetLeft v buf at bytes) ≡ take at buf
   pub after : drop (at + length bytes) (sheetLeft v buf at bytes) ≡ drop (at + length bytes) buf
 
--- "256 + 6n bytes", and six bytes a line; a file that was written reads back from its place in the buffer
+-- "256 + 6n bytes", so one room is enough for any accepted sheet's run, and six bytes a line; a file that was written reads back from
+-- its place in the buffer
 pub record SizePromise (profile : Profile) (ls : List Line) : Type 0 where
   pub run : length (runOf ls) ≡ flush + recordSize * length ls
+  pub room : sheetVerdict profile ls ≡ verdict.Accepted → length (runOf ls) ≤ flush + recordSize * sheetLimit
   pub file : length (fileOf profile ls) ≡ recordSize * length ls
   pub back : (buf : List ℕ) (at : ℕ) → sheetVerdict profile ls ≡ verdict.Accepted → at + recordSize * length ls ≤ length buf
       → (fileRead profile (take (recordSize * length ls) (drop at (fileLeft profile ls buf at))) .verdict ≡ verdict.Accepted)

@@ -25,6 +25,9 @@ ghost use Rattle.sheet.specs.declared.check.Verdict.the-variants as verdict;
 // The zeros that a run begins with.
 pub const FLUSH: usize = 256;
 
+// Room for any run: the zeros, and a frame for each line up to the limit; a frame has as many bytes as a record.
+pub const RUN_ROOM: usize = FLUSH + SHEET_LIMIT * RECORD;
+
 // What writing a sheet has done: how many bytes it wrote, or the refusal's number and place.
 pub enum SheetWritten {
     Bytes(usize),

@@ -1,12 +1,12 @@
--- Demand 3's premises can be met, computed: legal settings that differ from an accepted sheet of twelve lines, and a plug pulled inside
--- a frame. And 254 zeros do not suffice.
+-- Demand 3's premises can be met, computed: legal settings that differ from the full sheet of A on each of its fifteen lines, and a plug
+-- pulled inside a frame, inside the last one, and inside the flush. And 254 zeros do not suffice.
 use mathlib.Core.Path.{_≡_, refl, ap, sym, _∙_}
 use mathlib.Core.Bool.{Bool, true, false, cond, not, _&&_}
-use mathlib.Core.List.{List, [], _∷_, map}
+use mathlib.Core.List.{List, [], _∷_, _++_, map}
 use Prim.Native.Nat.{ℕ}
 use native.Mathlib.Omega.{arith}
 use lib.Dec.{eqb}
-use lib.ListN.{replicate}
+use lib.ListN.{take, replicate}
 use Rattle.frame.specs.Frame.{frameOf}
 use Rattle.frame.specs.Reader.{answerTo, takenAfter}
 use Rattle.row.specs.Signed.{numberOf, codeOf, plainCodeOf}
@@ -19,11 +19,10 @@ use Rattle.message.specs.Content.{contentOf}
 use Rattle.message.specs.Message.{readOf}
 use Rattle.message.proofs.Tidy.{every, row-passes}
 use Rattle.lists.specs.InOrder.{inOrder}
-use Rattle.sheet.specs.Line.{isLegal, isRepeated}
-use Rattle.sheet.specs.Check.{lowestFault, sheetVerdict}
+use Rattle.sheet.specs.Line.{isLegal}
 use Rattle.sheetfile.specs.Run.{runOf}
+use Rattle.sheetfile.proofs.Witness.{line, fifteen, fifteen-accepted}
 use Rattle.sheet.specs.declared.line.Line.{Line}
-use Rattle.sheet.specs.declared.check.Verdict.the-variants.{Accepted}
 use Rattle.unit.specs.Unit.{Setting, value, input, current, sameSetting, Unit, Holds, frameDone, after}
 use Rattle.unit.specs.Legal.{LegalSettings, RowIn}
 use Rattle.unit.specs.SettingsPromise.{SomeLegalPromise}
@@ -60,22 +59,6 @@ zeros-legal profile = record {
 pub some-legal-promise : (profile : Profile) → SomeLegalPromise profile
 some-legal-promise profile = record { settings = zeroSettings; legal = zeros-legal profile }
 
-abbrev pub line : ℕ → ℕ → ℕ → Line
-line zone command v = record { zone = zone; command = command; value = v }
-
--- twelve lines of A, none of them 00
-abbrev pub twelve : List Line
-twelve =
-    line 1 0x38 0x02 ∷ line 2 0x38 0x01 ∷ line 3 0x38 0x02
-    ∷ line 1 0x39 0xFF ∷ line 2 0x39 0x0A ∷ line 3 0x39 0x05
-    ∷ line 1 0x3A 0x85 ∷ line 2 0x3A 0x0F ∷ line 3 0x3A 0x8F
-    ∷ line 1 0x46 0x8A ∷ line 2 0x46 0x0A ∷ line 3 0x45 0x81
-    ∷ []
-
-pub accepted : sheetVerdict A twelve ≡ Accepted
-unfolding sheetVerdict lowestFault isLegal isRepeated rowJudged firstRow table
-accepted = refl
-
 -- a unit at legal settings, none of which is the sheet's, stopped after 21 01 3A FF 05, with 254 bytes of data to come
 abbrev before : List ℕ
 before = 0x21 ∷ 0x01 ∷ 0x3A ∷ 0xFF ∷ 0x05 ∷ []
@@ -83,24 +66,23 @@ before = 0x21 ∷ 0x01 ∷ 0x3A ∷ 0xFF ∷ 0x05 ∷ []
 abbrev start : Unit
 start = stopped A zeroSettings before
 
-pub differs : map (λ (l : Line). eqb (zeroSettings (settingOf l)) (l .value)) twelve ≡ replicate 12 false
+pub differs : map (λ (l : Line). eqb (zeroSettings (settingOf l)) (l .value)) fifteen ≡ replicate 15 false
 differs = refl
 
--- the plug pulled after 277 bytes, inside the fourth frame; pulled again inside the flush; then a full run
+-- the plug pulled after 277 bytes, inside the fourth frame; after 343, inside the fifteenth and last; inside the flush; then a full run
 abbrev cuts : List ℕ
-cuts = 277 ∷ 100 ∷ []
+cuts = 277 ∷ 343 ∷ 100 ∷ []
 
 abbrev sent : List ℕ
-sent = sendings cuts (runOf twelve)
+sent = sendings cuts (runOf fifteen)
 
-pub applied : Promised start twelve sent
+pub applied : Promised start fifteen sent
 applied =
-    demand-3 .holds A zeroSettings before twelve cuts
-    (omega arith, (omega arith, (omega arith, (omega arith, (omega arith, tt))))) accepted
+    demand-3 .holds A zeroSettings before fifteen cuts
+    (omega arith, (omega arith, (omega arith, (omega arith, (omega arith, tt))))) fifteen-accepted
 
--- what it says, computed beside it: at the first cut three lines are set and the reader stands inside the fourth's frame; at the end
--- all are
-pub pulled : map (λ (l : Line). moment start sent 277 .settings (settingOf l)) twelve ≡ 0x02 ∷ 0x01 ∷ 0x02 ∷ replicate 9 0x00
+-- what it says, computed beside it: at the first cut three lines are set and the reader stands inside the fourth's frame
+pub pulled : map (λ (l : Line). moment start sent 277 .settings (settingOf l)) fifteen ≡ 0x02 ∷ 0x01 ∷ 0x02 ∷ replicate 12 0x00
 unfolding runOf inOrder readerBy frameDone frameOf answerTo takenAfter readOf contentOf firstRow table numberOf codeOf plainCodeOf
 pulled = refl
 
@@ -108,12 +90,21 @@ pub pulled-inside : moment start sent 277 .taken ≡ 0x21 ∷ 0x01 ∷ 0x39 ∷ 
 unfolding runOf inOrder readerBy frameDone frameOf answerTo takenAfter readOf contentOf firstRow table numberOf codeOf plainCodeOf
 pulled-inside = refl
 
--- the second sending, cut too, has added nothing by then
-pub pulled-again : map (λ (l : Line). moment start sent 377 .settings (settingOf l)) twelve ≡ 0x02 ∷ 0x01 ∷ 0x02 ∷ replicate 9 0x00
+-- at the second all but the last, and the reader stands inside the last frame
+pub pulled-last : map (λ (l : Line). moment start sent 620 .settings (settingOf l)) fifteen ≡ take 14 (map (λ (l : Line). l .value) fifteen) ++ 0x00 ∷ []
+unfolding runOf inOrder readerBy frameDone frameOf answerTo takenAfter readOf contentOf firstRow table numberOf codeOf plainCodeOf
+pulled-last = refl
+
+pub pulled-inside-last : moment start sent 620 .taken ≡ 0x21 ∷ 0x03 ∷ 0x46 ∷ []
+unfolding runOf inOrder readerBy frameDone frameOf answerTo takenAfter readOf contentOf firstRow table numberOf codeOf plainCodeOf
+pulled-inside-last = refl
+
+-- the third sending, cut inside its flush, has added nothing; at the end all are set
+pub pulled-again : map (λ (l : Line). moment start sent 720 .settings (settingOf l)) fifteen ≡ take 14 (map (λ (l : Line). l .value) fifteen) ++ 0x00 ∷ []
 unfolding runOf inOrder readerBy frameDone frameOf answerTo takenAfter readOf contentOf firstRow table numberOf codeOf plainCodeOf
 pulled-again = refl
 
-pub reached : map (λ (l : Line). after start sent .settings (settingOf l)) twelve ≡ map (λ (l : Line). l .value) twelve
+pub reached : map (λ (l : Line). after start sent .settings (settingOf l)) fifteen ≡ map (λ (l : Line). l .value) fifteen
 unfolding runOf inOrder readerBy frameDone frameOf answerTo takenAfter readOf contentOf firstRow table numberOf codeOf plainCodeOf
 reached = refl
 
@@ -129,11 +120,11 @@ not-on (l ∷ ls) x e =
     (λ same. clash (sym (ap not (ap (λ (y : Setting). sameSetting y x) same ∙ cell-self x)) ∙ first), not-on ls x rest)
 
 pub untouched : (n : ℕ)
-    → Holds (moment start sent n) (value 1 0x45) 0x00 × Holds (moment start sent n) (input 0x06) 0x00 × Holds (moment start sent n) current 0x01
+    → Holds (moment start sent n) (value 1 0x37) 0x00 × Holds (moment start sent n) (input 0x06) 0x00 × Holds (moment start sent n) current 0x01
 untouched n = (
-  applied .others n (value 1 0x45) (not-on twelve (value 1 0x45) refl),
-  applied .others n (input 0x06) (not-on twelve (input 0x06) refl),
-  applied .others n current (not-on twelve current refl),
+  applied .others n (value 1 0x37) (not-on fifteen (value 1 0x37) refl),
+  applied .others n (input 0x06) (not-on fifteen (input 0x06) refl),
+  applied .others n current (not-on fifteen current refl),
 )
 
 -- a unit stopped after 21 01 3A FF, with all of 255 bytes of data to come, and a sheet of one line

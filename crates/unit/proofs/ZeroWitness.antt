@@ -24,6 +24,7 @@ use Rattle.sheet.specs.Check.{lowestFault, sheetVerdict}
 use Rattle.sheet.specs.declared.line.Line.{Line}
 use Rattle.sheet.specs.declared.check.Verdict.the-variants.{Accepted}
 use Rattle.sheetfile.specs.Run.{runOf}
+use Rattle.sheetfile.proofs.Witness.{line}
 use Rattle.tracker.specs.Tracker.{keptIn}
 use Rattle.tracker.specs.Feed.{answersFed}
 use Rattle.tracker.specs.Capture.{trackedBy}
@@ -38,7 +39,7 @@ use Rattle.unit.specs.Demand3.{stopped, moment, Promised}
 use Rattle.unit.proofs.Settings.{legal-promise}
 use Rattle.unit.proofs.Demand.{demand-3}
 use Rattle.unit.proofs.Truth.{truth-promise}
-use Rattle.unit.proofs.Witness.{line, zeros-legal}
+use Rattle.unit.proofs.Witness.{zeros-legal}
 
 -- 80 in the offset, the sub trim and the brightness of zone 1
 abbrev with80 : Settings → ℕ → Settings

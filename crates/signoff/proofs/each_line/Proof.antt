@@ -1,14 +1,15 @@
 -- `signoff::each_line` is safe and ends.
 use Prim.Native.Nat.{_-_, _≤_}
 use borrow.Author.Needs.{needs}
+use Rattle.sheet.specs.Sheet.{sheetLimit}
 use Rattle.signoff.proofs.each_line.Statement.{statement}
 use Rattle.signoff.proofs.each_line.Tie as tie
 
 abbrev Inv-loop : tie.InvT-loop
-Inv-loop letter count capture lines i₀ i = i ≤ 12
+Inv-loop letter count capture lines i₀ i = i ≤ sheetLimit
 
 abbrev μ-loop : tie.MeasureT-loop
-μ-loop letter count capture lines i₀ i = 12 - i
+μ-loop letter count capture lines i₀ i = sheetLimit - i
 
 loop-holds : tie.Need-loop-holds Inv-loop μ-loop
 loop-holds c = search needs

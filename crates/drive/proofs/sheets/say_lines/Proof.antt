@@ -1,14 +1,15 @@
 -- `drive::sheets::say_lines` is safe and ends.
 use Prim.Native.Nat.{_-_, _≤_}
 use borrow.Author.Needs.{needs}
+use Rattle.sheet.specs.Sheet.{sheetLimit}
 use Rattle.drive.proofs.sheets.say_lines.Statement.{statement}
 use Rattle.drive.proofs.sheets.say_lines.Tie as tie
 
 abbrev Inv-loop : tie.InvT-loop
-Inv-loop count lines i₀ i = i ≤ 12
+Inv-loop count lines i₀ i = i ≤ sheetLimit
 
 abbrev μ-loop : tie.MeasureT-loop
-μ-loop count lines i₀ i = 12 - i
+μ-loop count lines i₀ i = sheetLimit - i
 
 slice-aggregate-say-counted : tie.Need-slice-aggregate-say-counted Inv-loop μ-loop
 slice-aggregate-say-counted c = search needs
