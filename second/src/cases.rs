@@ -33,11 +33,12 @@ impl Cases {
             self.limit_case(index / LIMIT_EVERY);
         } else {
             match self.random.below(100) {
-                0..=29 => self.capture_case(),
-                30..=53 => self.message_case(),
-                54..=57 => self.signed_case(),
-                58..=61 => self.step_case(),
-                62..=75 => self.sheet_case(),
+                0..=25 => self.capture_case(),
+                26..=49 => self.message_case(),
+                50..=54 => self.signed_case(),
+                55..=58 => self.step_case(),
+                59..=70 => self.sheet_case(),
+                71..=75 => self.long_sheet_case(),
                 76..=87 => self.history_case(),
                 88..=97 => self.small_case(),
                 _ => self.no_operation_case(),

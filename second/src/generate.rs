@@ -46,6 +46,11 @@ pub fn generate(seed: u64, count: usize, mut ops: impl Write) -> io::Result<(Str
 #[cfg(test)]
 mod tests {
     use super::*;
+    use crate::rows::Profile;
+    use crate::sheet::{self, Line, RECORD};
+    use crate::text;
+    use std::collections::BTreeSet;
+    use std::ops::RangeInclusive;
 
     #[test]
     fn the_same_seed_gives_the_same_operations() {
@@ -142,6 +147,85 @@ mod tests {
             });
             assert!(signed, "{command}");
         }
+    }
+
+    #[test]
+    fn long_sheets_come_to_every_operation_on_sheets() {
+        let lines = enough_lines();
+        for (p, profile, full) in [("41", Profile::A, 15), ("53", Profile::S, 8)] {
+            for (word, accepted) in [
+                ("check", format!("accepted {full} ")),
+                ("copy", format!("bytes {} ", 6 * full)),
+                ("run", format!("bytes {} ", 256 + 6 * full)),
+                ("sign", "signed".to_string()),
+            ] {
+                // The lines of each sheet file, and what the operation printed.
+                let sheets: Vec<(Vec<Line>, String)> = lines
+                    .iter()
+                    .filter(|line| line.starts_with(&format!("{word} {p} ")))
+                    .filter_map(|line| Some((lines_of(line)?, print(line))))
+                    .collect();
+                let of_size = |sizes: RangeInclusive<usize>| {
+                    let has_size = move |lines: &[Line]| sizes.contains(&lines.len());
+                    sheets.iter().filter(move |(lines, _)| has_size(lines))
+                };
+                let is_full = |printed: &str| printed.starts_with(&accepted);
+                let mut fulls = of_size(full..=full);
+                assert!(fulls.any(|(_, printed)| is_full(printed)), "{word} {p}");
+                // Each number at the first line, behind a full sheet and at many between.
+                for (number, first) in [(7, 0), (8, 1)] {
+                    let places: BTreeSet<usize> = of_size(16..=24)
+                        .filter_map(|(_, printed)| place(printed, number))
+                        .collect();
+                    assert!(places.contains(&first), "{word} {p} {number}: {places:?}");
+                    assert!(places.contains(&full), "{word} {p} {number}: {places:?}");
+                    assert!(places.len() >= full / 2, "{word} {p} {number}: {places:?}");
+                    let mut at_limit = of_size(24..=24);
+                    assert!(at_limit.any(|(_, printed)| place(printed, number).is_some()));
+                }
+                let is_bad = |line: &Line| !sheet::legal(profile, *line);
+                for (sizes, bad) in [
+                    (25..=25, false),
+                    (25..=25, true),
+                    (26..=300, false),
+                    (26..=300, true),
+                    (256 + full..=256 + full, false),
+                ] {
+                    let mut over =
+                        of_size(sizes.clone()).filter(|(lines, _)| lines.iter().all(is_bad) == bad);
+                    assert!(
+                        over.any(|(_, printed)| place(printed, 6) == Some(24)),
+                        "{word} {p} {sizes:?} {bad}"
+                    );
+                }
+                // 10 at a record past the limit comes before 6.
+                let past = |printed: &str| place(printed, 10).is_some_and(|place| place >= 24);
+                assert!(of_size(25..=300).any(|(_, printed)| past(printed)));
+            }
+        }
+    }
+
+    /// The lines of an operation's sheet file, whatever its marks are.
+    fn lines_of(operation: &str) -> Option<Vec<Line>> {
+        let arguments: Vec<&str> = operation.split(' ').collect();
+        let file = match *arguments {
+            ["check", _, file] | ["sign", _, file, _] => file,
+            ["copy" | "run", _, _, _, file] => file,
+            _ => return None,
+        };
+        let line = |record: &[u8]| Line {
+            zone: record[3],
+            command: record[4],
+            value: record[5],
+        };
+        let file = text::bytes(file.as_bytes())?;
+        Some(file.chunks_exact(RECORD).map(line).collect())
+    }
+
+    /// The place of a sheet's refusal with that number.
+    fn place(printed: &str, number: u8) -> Option<usize> {
+        let rest = printed.strip_prefix(&format!("refused {number} at "))?;
+        rest.split_whitespace().next()?.parse().ok()
     }
 
     #[test]

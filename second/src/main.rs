@@ -22,7 +22,6 @@ use std::fs::{self, File};
 use std::io::{self, BufReader, BufWriter, Read, Write};
 use std::process::ExitCode;
 
-use frame::Direction;
 use tally::Kind;
 
 const USE: &str = "use: second operations | listing | trials | rows | generate SEED COUNT OPS \
@@ -128,14 +127,16 @@ fn plug(
         Ok(outcome) => {
             save(ops, &outcome.ops)?;
             save(expected, &outcome.expected)?;
-            let mut kinds = Kind::minus_zeros(Direction::Answer);
-            let minus_zeros: u64 = kinds.iter().map(|&kind| outcome.minus_zeros.of(kind)).sum();
             print(&format!(
-                "sheets {} cuts {} bytes {} cells {} minus zeros {minus_zeros}\n",
-                outcome.sheets, outcome.cuts, outcome.bytes, outcome.cells
+                "sheets {} cuts {} bytes {} cells {} minus zeros {} last frame cuts {}\n",
+                outcome.sheets,
+                outcome.cuts,
+                outcome.bytes,
+                outcome.cells,
+                outcome.minus_zeros(),
+                outcome.last_frame_cuts()
             ))?;
-            kinds.retain(|&kind| outcome.minus_zeros.of(kind) == 0);
-            tell_missing(&kinds, outcome.sheets >= plug::ENOUGH)
+            tell_missing(&outcome.missing(), outcome.sheets >= plug::ENOUGH)
         }
         Err(plug::Failure::Wrong(wrong)) => {
             print(&format!("wrong: {wrong}\n"))?;

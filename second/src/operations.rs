@@ -168,14 +168,14 @@ fn reply(line: &[u8], tally: &mut Tally) -> Option<Reply> {
             };
             sheets::legal(one(p)?, line).into()
         }
-        ("check", [p, file]) => sheets::check(one(p)?, file).into(),
+        ("check", [p, file]) => sheets::check(one(p)?, file, tally).into(),
         ("copy", [p, length, place, file]) => {
             let place = text::number(place)?;
-            sheets::sheet_bytes(one(p)?, size(length)?, place, file, sheet::file)
+            sheets::sheet_bytes(one(p)?, size(length)?, place, file, sheet::file, tally)
         }
         ("run", [p, length, place, file]) => {
             let place = text::number(place)?;
-            sheets::sheet_bytes(one(p)?, size(length)?, place, file, sheet::run)
+            sheets::sheet_bytes(one(p)?, size(length)?, place, file, sheet::run, tally)
         }
         ("sign", [p, file, capture]) => sheets::sign(one(p)?, file, capture, tally).into(),
         ("cell", [p, capture, zone, command]) => {
@@ -413,6 +413,145 @@ mod tests {
         assert_eq!(sign("80", "80"), "refused 7 at 0");
         assert_eq!(print("check 41 534C41013A80"), "refused 7 at 0");
         assert_eq!(print("check 41 534C410145A8"), "accepted 1 : 0145A8");
+    }
+
+    /// A sheet file of that many lines: a full sheet, then the same lines again.
+    fn file(p: &str, count: usize) -> String {
+        let (commands, zones) = match p {
+            "41" => (
+                vec!["38", "39", "3A", "45", "46"],
+                ["01", "02", "03"].as_slice(),
+            ),
+            _ => (vec!["0D", "0E", "5B", "5C"], ["01", "02"].as_slice()),
+        };
+        let cells = zones
+            .iter()
+            .flat_map(|zone| commands.iter().map(move |command| (zone, command)));
+        let records = cells.map(|(zone, command)| format!("534C{p}{zone}{command}00"));
+        records.cycle().take(count).collect()
+    }
+
+    /// What every operation on a sheet file prints, its answer alone.
+    fn answers(p: &str, file: &str) -> Vec<String> {
+        let lines = [
+            format!("check {p} {file}"),
+            format!("copy {p} - - {file}"),
+            format!("run {p} 0200 - {file}"),
+            format!("sign {p} {file} -"),
+        ];
+        let answer = |line: &String| print(line).split(" : ").next().unwrap().to_string();
+        lines.iter().map(answer).collect()
+    }
+
+    #[test]
+    fn full_sheets_are_accepted() {
+        let answered = ["accepted 15", "refused 9 at 0", "bytes 346", "not signed"];
+        assert_eq!(answers("41", &file("41", 15)), answered);
+        let answered = ["accepted 8", "refused 9 at 0", "bytes 304", "not signed"];
+        assert_eq!(answers("53", &file("53", 8)), answered);
+        for (p, count) in [("41", 15), ("53", 8)] {
+            let full = file(p, count);
+            // Zone, command and value of each record.
+            let ends = (1..=count).map(|records| 12 * records);
+            let lines: Vec<&str> = ends.map(|end| &full[end - 6..end]).collect();
+            assert_eq!(
+                print(&format!("check {p} {full}")),
+                format!("accepted {count} : {}", lines.join(" "))
+            );
+            let bytes = 6 * count;
+            assert_eq!(
+                print(&format!("copy {p} {bytes:02X} - {full}")),
+                format!("bytes {bytes} : {full}")
+            );
+            let frame = |line: &&str| format!("21{}01{}0D", &line[..4], &line[4..]);
+            let frames: String = lines.iter().map(frame).collect();
+            let bytes = 256 + bytes;
+            assert_eq!(
+                print(&format!("run {p} {bytes:04X} - {full}")),
+                format!("bytes {bytes} : {}{frames}", "00".repeat(256))
+            );
+            let short = bytes - 1;
+            assert_eq!(
+                print(&format!("run {p} {short:04X} - {full}")),
+                format!("refused 9 at 0 : {}", "AA".repeat(short))
+            );
+            let answer = |line: &&str| format!("21{}0001{}0D", &line[..4], &line[4..]);
+            let capture: String = lines.iter().map(answer).collect();
+            assert_eq!(print(&format!("sign {p} {full} {capture}")), "signed");
+            assert_eq!(
+                print(&format!("sign {p} {full} {}", &capture[14..])),
+                "not signed"
+            );
+        }
+    }
+
+    #[test]
+    fn longer_sheets_are_refused() {
+        for (p, full) in [("41", 15), ("53", 8)] {
+            for count in [full + 1, 16, 24] {
+                let mut records = file(p, count);
+                let refused = format!("refused 8 at {full}");
+                assert_eq!(answers(p, &records), [refused.as_str(); 4]);
+                // The line behind a full sheet gets a value that no row has.
+                records.replace_range(12 * full + 10..12 * full + 12, "EF");
+                let refused = format!("refused 7 at {full}");
+                assert_eq!(answers(p, &records), [refused.as_str(); 4]);
+            }
+            for count in [25, 26, 271] {
+                let mut records = file(p, count);
+                assert_eq!(answers(p, &records), ["refused 6 at 24"; 4]);
+                let bad = format!("534C{p}009980").repeat(count);
+                assert_eq!(answers(p, &bad), ["refused 6 at 24"; 4]);
+                // 10 comes before 6.
+                records.replace_range(12 * (count - 1)..12 * count, "534D58013800");
+                let refused = format!("refused 10 at {}", count - 1);
+                assert_eq!(answers(p, &records), [refused.as_str(); 4]);
+                let refused = format!("refused 10 at {count}");
+                assert_eq!(answers(p, &(file(p, count) + "53")), [refused.as_str(); 4]);
+            }
+        }
+    }
+
+    #[test]
+    fn sheets_are_counted_by_their_size_and_refusal() {
+        let kinds = [
+            Kind::FullSheet(Profile::A),
+            Kind::FullSheet(Profile::S),
+            Kind::LongSheet(7),
+            Kind::LongSheet(8),
+            Kind::SheetOf(24),
+            Kind::SheetOf(25),
+        ];
+        let all = Kind::all(&WORDS);
+        assert!(kinds.iter().all(|kind| all.contains(kind)));
+        let counted = |p: &str, file: &str| {
+            let mut tally = Tally::default();
+            for line in [format!("check {p} {file}"), format!("sign {p} {file} -")] {
+                run(line.as_bytes(), &mut String::new(), &mut tally);
+            }
+            for word in ["copy", "run"] {
+                let line = format!("{word} {p} 0200 - {file}");
+                run(line.as_bytes(), &mut String::new(), &mut tally);
+            }
+            kinds.map(|kind| tally.of(kind))
+        };
+        let bad = |count: usize| format!("534C41013881{}", file("41", count - 1));
+        assert_eq!(counted("41", &file("41", 15)), [4, 0, 0, 0, 0, 0]);
+        assert_eq!(counted("53", &file("53", 8)), [0, 4, 0, 0, 0, 0]);
+        assert_eq!(counted("41", &file("41", 14)), [0; 6]);
+        assert_eq!(counted("41", &bad(15)), [0; 6]);
+        assert_eq!(counted("53", &file("53", 15)), [0; 6]);
+        assert_eq!(counted("41", &file("41", 16)), [0, 0, 0, 4, 0, 0]);
+        assert_eq!(counted("53", &file("53", 24)), [0, 0, 0, 4, 4, 0]);
+        assert_eq!(counted("41", &bad(16)), [0, 0, 4, 0, 0, 0]);
+        assert_eq!(counted("41", &bad(24)), [0, 0, 4, 0, 4, 0]);
+        assert_eq!(counted("41", &bad(25)), [0, 0, 0, 0, 0, 4]);
+        assert_eq!(counted("41", &bad(26)), [0; 6]);
+        // A file that is 10 has no sheet, nor has one under a letter that is 12.
+        for p in ["41", "58"] {
+            assert_eq!(counted(p, &file("53", 24)), [0; 6]);
+            assert_eq!(counted(p, &format!("{}53", file("41", 25))), [0; 6]);
+        }
     }
 
     #[test]

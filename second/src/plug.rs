@@ -11,7 +11,7 @@ use crate::tally::{Kind, Tally};
 use crate::text;
 use crate::unit::{Settings, Unit};
 
-/// From this many sheets on minus zero of every row must be told.
+/// From this many sheets on every kind must occur.
 pub const ENOUGH: usize = 200;
 
 /// Scenarios of random cuts for each sheet.
@@ -25,13 +25,14 @@ struct Sheet {
     lines: Vec<Line>,
 }
 
-/// Accepted sheets of both profiles and all sizes.
+/// Accepted sheets of both profiles and all sizes, from a full one down.
 fn sheets(seed: u64, count: usize) -> Vec<Sheet> {
     let mut random = Random::new(seed);
     (0..count)
         .map(|index| {
             let profile = PROFILES[index % PROFILES.len()];
-            let size = index / PROFILES.len() % (samples::most_lines(profile) + 1);
+            let full = samples::most_lines(profile);
+            let size = full - index / PROFILES.len() % (full + 1);
             let lines = samples::sheet(&mut random, profile, size);
             Sheet { profile, lines }
         })
@@ -44,7 +45,12 @@ impl Sheet {
     }
 
     fn operation(&self) -> String {
-        format!("run {:02X} 0148 - {}", self.profile.letter(), self.file())
+        let (p, length) = (self.profile.letter(), sheet::LONGEST_RUN);
+        format!("run {p:02X} {length:04X} - {}", self.file())
+    }
+
+    fn is_full(&self) -> bool {
+        self.lines.len() == samples::most_lines(self.profile)
     }
 }
 
@@ -75,11 +81,33 @@ pub struct Outcome {
     pub cuts: u64,
     pub bytes: u64,
     pub cells: u64,
-    /// Cells whose last answer was minus zero.
-    pub minus_zeros: Tally,
+    /// Cells whose last answer was minus zero, and cuts in the last frame of a full sheet.
+    tally: Tally,
 }
 
 impl Outcome {
+    /// Cells whose last answer was minus zero, of all rows.
+    pub fn minus_zeros(&self) -> u64 {
+        self.sum(&Kind::minus_zeros(Direction::Answer))
+    }
+
+    /// Cuts in the last frame of a full sheet, of both profiles.
+    pub fn last_frame_cuts(&self) -> u64 {
+        self.sum(&PROFILES.map(Kind::LastFrameCut))
+    }
+
+    fn sum(&self, kinds: &[Kind]) -> u64 {
+        kinds.iter().map(|&kind| self.tally.of(kind)).sum()
+    }
+
+    /// The kinds that never occurred.
+    pub fn missing(&self) -> Vec<Kind> {
+        let mut kinds = Kind::minus_zeros(Direction::Answer);
+        kinds.extend(PROFILES.map(Kind::LastFrameCut));
+        kinds.retain(|&kind| self.tally.of(kind) == 0);
+        kinds
+    }
+
     fn expect(&mut self, operation: &str, printed: &str) {
         self.ops.push_str(operation);
         self.ops.push('\n');
@@ -217,7 +245,7 @@ impl Session {
         places.extend([(0, 0x44), (other, 0x44), (255, 0x37), (1, 0x99), (1, 0x00)]);
         places.extend(foreign.map(|&foreign| (1, foreign_command(foreign))));
         for (zone, command) in places {
-            let printed = self.truth(profile, zone, command, &mut outcome.minus_zeros);
+            let printed = self.truth(profile, zone, command, &mut outcome.tally);
             let operation = format!("cell {p:02X} {capture} {zone:02X} {command:02X}");
             outcome.expect(&operation, &printed);
             outcome.cells += 1;
@@ -225,7 +253,7 @@ impl Session {
     }
 
     /// What `cell` must print; minus zero is counted.
-    fn truth(&self, profile: Profile, zone: u8, command: u8, minus_zeros: &mut Tally) -> String {
+    fn truth(&self, profile: Profile, zone: u8, command: u8, tally: &mut Tally) -> String {
         let cell = rows::find(profile, command)
             .filter(|&row| ROWS[row].has_zone(zone) && ROWS[row].codes != Codes::Pair);
         let Some(row) = cell else {
@@ -237,7 +265,7 @@ impl Session {
         }
         let value = self.unit.settings.values[row][zone];
         if ROWS[row].is_minus_zero(value) {
-            minus_zeros.count(Kind::MinusZero(row, Direction::Answer));
+            tally.count(Kind::MinusZero(row, Direction::Answer));
         }
         format!("value {:02X}", ROWS[row].as_written(value))
     }
@@ -422,6 +450,10 @@ fn every_cut(
             .finish(sheet.profile, &watch, run, outcome)
             .map_err(describe)?;
         outcome.cuts += 1;
+        // Some bytes of the last frame were sent and some were not.
+        if sheet.is_full() && (1..sheet::RUN_FRAME).contains(&(run.len() - cut)) {
+            outcome.tally.count(Kind::LastFrameCut(sheet.profile));
+        }
         if cut == chosen {
             told = Some(session);
         }
@@ -491,7 +523,7 @@ fn after_commands(
 mod tests {
     use super::*;
     use crate::operations;
-    use crate::tally::Tally;
+    use std::collections::BTreeSet;
 
     fn print(ops: &str) -> String {
         let mut printed = String::new();
@@ -509,9 +541,76 @@ mod tests {
         };
         assert_eq!(outcome.sheets, 40);
         assert_eq!(print(&outcome.ops), outcome.expected);
-        // Units that answered 80 in each row are among them.
-        for kind in Kind::minus_zeros(Direction::Answer) {
-            assert!(outcome.minus_zeros.of(kind) > 0, "{kind}");
+        // Units that answered 80 in each row are among them, and full sheets.
+        assert!(outcome.missing().is_empty());
+    }
+
+    #[test]
+    fn full_sheets_come_with_any_seed() {
+        for seed in 0..10 {
+            for count in [2, 3, 40] {
+                let sheets = sheets(seed, count);
+                for (profile, most) in [(Profile::A, 15), (Profile::S, 8)] {
+                    let mut of_profile = sheets.iter().filter(|sheet| sheet.profile == profile);
+                    assert!(of_profile.any(|sheet| sheet.lines.len() == most));
+                }
+            }
+        }
+        let sizes = |profile| -> BTreeSet<usize> {
+            let sheets = sheets(3, 32);
+            let of_profile = sheets.iter().filter(|sheet| sheet.profile == profile);
+            of_profile.map(|sheet| sheet.lines.len()).collect()
+        };
+        assert_eq!(sizes(Profile::A), (0..=15).collect());
+        assert_eq!(sizes(Profile::S), (0..=8).collect());
+    }
+
+    #[test]
+    fn a_full_sheet_is_cut_after_every_byte() {
+        let last_frames = PROFILES.map(Kind::LastFrameCut);
+        let sheets = sheets(3, 2);
+        for (sheet, cuts, other) in [
+            (&sheets[0], 256 + 90 + 1, last_frames[1]),
+            (&sheets[1], 256 + 48 + 1, last_frames[0]),
+        ] {
+            let run = printed_run(print(&sheet.operation()).trim_end()).unwrap();
+            let mut outcome = Outcome::default();
+            let mut random = Random::new(3);
+            assert!(every_cut(&mut random, sheet, &run, &[], &mut outcome).is_ok());
+            assert_eq!(outcome.cuts, cuts);
+            // Five places in the last frame, which no other kind of sheet counts for.
+            assert_eq!(outcome.last_frame_cuts(), 5);
+            assert!(outcome.missing().contains(&other));
+            let one_less = Sheet {
+                profile: sheet.profile,
+                lines: sheet.lines[1..].to_vec(),
+            };
+            let run = printed_run(print(&one_less.operation()).trim_end()).unwrap();
+            let mut outcome = Outcome::default();
+            assert!(every_cut(&mut random, &one_less, &run, &[], &mut outcome).is_ok());
+            assert_eq!(outcome.cuts, cuts - 6);
+            for kind in last_frames {
+                assert!(outcome.missing().contains(&kind));
+            }
+        }
+    }
+
+    #[test]
+    fn a_full_run_without_its_last_line_is_found() {
+        let ops = runs(3, 2);
+        for profile in PROFILES {
+            let short: String = ops
+                .lines()
+                .map(|line| {
+                    let printed = print(line);
+                    let mut run = printed_run(printed.trim_end()).unwrap();
+                    if line.starts_with(&format!("run {:02X} ", profile.letter())) {
+                        run.truncate(run.len() - 6);
+                    }
+                    format!("bytes {} : {}\n", run.len(), text::hex(&run))
+                })
+                .collect();
+            assert!(matches!(plug(3, 2, &ops, &short), Err(Failure::Wrong(_))));
         }
     }
 

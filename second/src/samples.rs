@@ -1,9 +1,11 @@
 //! Random frames, captures and sheets.
 
+use std::ops::RangeInclusive;
+
 use crate::frame::{Direction, Frame, DATA_LIMIT, END, OPENING};
 use crate::random::Random;
 use crate::rows::{Codes, Mark, Profile, Row, Says, INPUTS, MINUS_ZERO, REQUEST_AND_STEPS, ROWS};
-use crate::sheet::Line;
+use crate::sheet::{Line, LINE_LIMIT};
 
 pub const PROFILES: [Profile; 2] = [Profile::A, Profile::S];
 pub const DIRECTIONS: [Direction; 2] = [Direction::Command, Direction::Answer];
@@ -254,36 +256,80 @@ fn sheet_value(random: &mut Random, row: &Row) -> u8 {
     }
 }
 
+/// Every zone of every sheet row.
+fn sheet_cells(profile: Profile) -> Vec<(u8, &'static Row)> {
+    let mut rows = rows_of(profile);
+    rows.retain(|row| row.mark == Mark::Sheet);
+    (1..=profile.zones())
+        .flat_map(|zone| rows.iter().map(move |&row| (zone, row)))
+        .filter(|(zone, row)| row.has_zone(*zone))
+        .collect()
+}
+
+/// The lines of a full sheet, the most that are accepted: one more would be 7 or 8.
+pub fn most_lines(profile: Profile) -> usize {
+    sheet_cells(profile).len()
+}
+
+/// The sizes that the limit allows and no profile's sheet can have.
+pub fn long_sizes() -> RangeInclusive<usize> {
+    let most = PROFILES.into_iter().map(most_lines).max();
+    most.map_or(0, |most| most + 1)..=LINE_LIMIT
+}
+
 /// Every zone of every sheet row, with a random legal value, in random order.
-pub fn full_sheet(random: &mut Random, profile: Profile) -> Vec<Line> {
-    let mut lines = Vec::new();
-    for row in rows_of(profile) {
-        if row.mark == Mark::Not {
-            continue;
-        }
-        for zone in 1..=profile.zones() {
-            lines.push(Line {
-                zone,
-                command: row.command,
-                value: sheet_value(random, row),
-            });
-        }
-    }
+fn full_sheet(random: &mut Random, profile: Profile) -> Vec<Line> {
+    let mut lines: Vec<Line> = sheet_cells(profile)
+        .into_iter()
+        .map(|(zone, row)| Line {
+            zone,
+            command: row.command,
+            value: sheet_value(random, row),
+        })
+        .collect();
     random.shuffle(&mut lines);
     lines
 }
 
-/// The most lines of an accepted sheet.
-pub fn most_lines(profile: Profile) -> usize {
-    match profile {
-        Profile::A => 12,
-        Profile::S => 8,
-    }
-}
-
-/// A sheet of that many lines, accepted up to the most lines of the profile.
+/// A sheet of that many legal lines, accepted up to a full one; then its zones and rows come again.
 pub fn sheet(random: &mut Random, profile: Profile, size: usize) -> Vec<Line> {
     let mut lines = full_sheet(random, profile);
+    while lines.len() < size {
+        lines.extend(full_sheet(random, profile));
+    }
     lines.truncate(size);
     lines
+}
+
+#[cfg(test)]
+mod tests {
+    use super::*;
+    use crate::sheet::{check, Fault};
+
+    #[test]
+    fn a_full_sheet_has_fifteen_lines_or_eight() {
+        assert_eq!(most_lines(Profile::A), 15);
+        assert_eq!(most_lines(Profile::S), 8);
+        assert_eq!(long_sizes(), 16..=24);
+    }
+
+    #[test]
+    fn sheets_are_accepted_up_to_a_full_one() {
+        let mut random = Random::new(7);
+        for profile in PROFILES {
+            let most = most_lines(profile);
+            for size in 0..=LINE_LIMIT {
+                let lines = sheet(&mut random, profile, size);
+                assert_eq!(lines.len(), size);
+                let expected = match size <= most {
+                    true => Ok(()),
+                    false => Err(Fault {
+                        number: 8,
+                        at: most,
+                    }),
+                };
+                assert_eq!(check(profile, &lines), expected);
+            }
+        }
+    }
 }

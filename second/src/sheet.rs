@@ -3,9 +3,15 @@
 use crate::frame::{Direction, Frame};
 use crate::rows::{self, Profile, ROWS};
 
-pub const LINE_LIMIT: usize = 12;
+/// The most lines of a sheet.
+pub const LINE_LIMIT: usize = 24;
+/// The bytes of a line in a sheet file.
 pub const RECORD: usize = 6;
 pub const RUN_ZEROS: usize = 256;
+/// The bytes of a line in a run.
+pub const RUN_FRAME: usize = 6;
+/// The bytes of the longest run that the limit leaves room for.
+pub const LONGEST_RUN: usize = RUN_ZEROS + RUN_FRAME * LINE_LIMIT;
 const MARK: [u8; 2] = [0x53, 0x4C];
 
 #[derive(Clone, Copy, PartialEq, Eq, Debug)]
@@ -124,6 +130,26 @@ mod tests {
         Fault { number, at }
     }
 
+    /// Every sheet row in every zone.
+    fn full(profile: Profile) -> Vec<Line> {
+        let (commands, zones) = match profile {
+            Profile::A => (vec![0x38, 0x39, 0x3A, 0x45, 0x46], 1..=3),
+            Profile::S => (vec![0x0D, 0x0E, 0x5B, 0x5C], 1..=2),
+        };
+        zones
+            .flat_map(|zone| {
+                commands
+                    .iter()
+                    .map(move |&command| line(zone, command, 0x00))
+            })
+            .collect()
+    }
+
+    /// That many lines: a full sheet, then the same lines again.
+    fn repeated(profile: Profile, count: usize) -> Vec<Line> {
+        full(profile).into_iter().cycle().take(count).collect()
+    }
+
     #[test]
     fn the_lowest_fault_is_given() {
         let good = line(1, 0x3A, 0x85);
@@ -132,8 +158,9 @@ mod tests {
         assert_eq!(a(&[]), Ok(()));
         assert_eq!(a(&[good, good, bad]), Err(fault(8, 1)));
         assert_eq!(a(&[good, bad]), Err(fault(7, 1)));
-        assert_eq!(a(&[bad; 12]), Err(fault(7, 0)));
-        assert_eq!(a(&[bad; 40]), Err(fault(6, 12)));
+        assert_eq!(a(&[bad; 24]), Err(fault(7, 0)));
+        assert_eq!(a(&[bad; 25]), Err(fault(6, 24)));
+        assert_eq!(a(&[bad; 40]), Err(fault(6, 24)));
         assert_eq!(a(&[line(1, 0x39, 0xFF)]), Ok(()));
         assert_eq!(a(&[line(1, 0x39, 0xF0)]), Err(fault(7, 0)));
         assert_eq!(a(&[line(1, 0x38, 0xF1)]), Err(fault(7, 0)));
@@ -141,6 +168,55 @@ mod tests {
         assert_eq!(s(&[line(1, 0x0E, 0x02)]), Err(fault(7, 0)));
         assert_eq!(s(&[line(1, 0x5B, 0x01)]), Err(fault(7, 0)));
         assert_eq!(s(&[line(1, 0x37, 0x03)]), Err(fault(7, 0)));
+    }
+
+    #[test]
+    fn a_full_sheet_is_accepted_and_no_longer_one() {
+        for (profile, most) in [(Profile::A, 15), (Profile::S, 8)] {
+            assert_eq!(full(profile).len(), most);
+            for count in 0..=most {
+                assert_eq!(check(profile, &repeated(profile, count)), Ok(()));
+            }
+            for count in most + 1..=24 {
+                let lines = repeated(profile, count);
+                assert_eq!(check(profile, &lines), Err(fault(8, most)), "{count}");
+                // 7 behind a full sheet, also where the line is one again.
+                let mut spoilt = lines.clone();
+                spoilt[most].value = 0x80;
+                assert_eq!(check(profile, &spoilt), Err(fault(7, most)), "{count}");
+            }
+            for count in [25, 26, 40, 256, 256 + most, 500] {
+                let lines = repeated(profile, count);
+                assert_eq!(check(profile, &lines), Err(fault(6, 24)), "{count}");
+                let bad = vec![line(0, 0x99, 0x80); count];
+                assert_eq!(check(profile, &bad), Err(fault(6, 24)), "{count}");
+            }
+        }
+    }
+
+    #[test]
+    fn the_lowest_fault_of_a_long_sheet_is_given() {
+        for profile in [Profile::A, Profile::S] {
+            let most = full(profile).len();
+            for count in [16, 24] {
+                for at in 0..count {
+                    // An illegal line, and from the second on a repeat.
+                    let mut lines = repeated(profile, count);
+                    lines[at].zone = 0;
+                    let illegal = match at <= most {
+                        true => fault(7, at),
+                        false => fault(8, most),
+                    };
+                    assert_eq!(check(profile, &lines), Err(illegal), "{count} {at}");
+                    lines[at] = lines[at.saturating_sub(1)];
+                    let again = match at {
+                        0 => fault(7, 0),
+                        _ => fault(8, at.min(most)),
+                    };
+                    assert_eq!(check(profile, &lines), Err(again), "{count} {at}");
+                }
+            }
+        }
     }
 
     #[test]
@@ -167,12 +243,40 @@ mod tests {
 
     #[test]
     fn marks_come_before_the_lines() {
-        let mut file = records(Profile::A, &[line(1, 0x3A, 0x80); 14]);
-        assert_eq!(read_file(Profile::A, &file), Err(fault(6, 12)));
-        file[13 * RECORD] = 0;
-        assert_eq!(read_file(Profile::A, &file), Err(fault(10, 13)));
+        let mut file = records(Profile::A, &[line(1, 0x3A, 0x80); 26]);
+        assert_eq!(read_file(Profile::A, &file), Err(fault(6, 24)));
+        assert_eq!(read_file(Profile::A, &file[..25 * 6]), Err(fault(6, 24)));
+        assert_eq!(read_file(Profile::A, &file[..24 * 6]), Err(fault(7, 0)));
+        file[25 * 6] = 0;
+        assert_eq!(read_file(Profile::A, &file), Err(fault(10, 25)));
         assert_eq!(read_file(Profile::S, &file), Err(fault(10, 0)));
-        assert_eq!(read_file(Profile::S, &file[1..]), Err(fault(10, 13)));
+        assert_eq!(read_file(Profile::S, &file[1..]), Err(fault(10, 25)));
+        assert_eq!(read_file(Profile::A, &file[..25 * 6]), Err(fault(6, 24)));
+    }
+
+    #[test]
+    fn files_at_the_limit() {
+        for (profile, most) in [(Profile::A, 15), (Profile::S, 8)] {
+            for (count, wrong) in [
+                (most + 1, fault(8, most)),
+                (16, fault(8, most)),
+                (24, fault(8, most)),
+                (25, fault(6, 24)),
+                (26, fault(6, 24)),
+            ] {
+                let lines = repeated(profile, count);
+                let mut written = records(profile, &lines);
+                assert_eq!(read_file(profile, &written), Err(wrong), "{count}");
+                assert_eq!(file(profile, &lines), Err(wrong), "{count}");
+                assert_eq!(run(profile, &lines), Err(wrong), "{count}");
+                // The last record's profile, whatever its lines are.
+                written[6 * count - 4] = 0x58;
+                let last = Err(fault(10, count - 1));
+                assert_eq!(read_file(profile, &written), last, "{count}");
+                written.pop();
+                assert_eq!(read_file(profile, &written), last, "{count}");
+            }
+        }
     }
 
     #[test]
@@ -183,5 +287,24 @@ mod tests {
         let run = run(Profile::A, &lines).unwrap();
         assert_eq!(run.len(), 256 + 12);
         assert_eq!(run[256..262], [0x21, 1, 0x3A, 1, 0x85, 0x0D]);
+    }
+
+    #[test]
+    fn a_full_sheet_reads_back_and_its_run_has_a_frame_for_each_line() {
+        for (profile, bytes) in [(Profile::A, 90), (Profile::S, 48)] {
+            let lines = full(profile);
+            let written = file(profile, &lines).unwrap();
+            assert_eq!(written.len(), bytes);
+            assert_eq!(read_file(profile, &written), Ok(lines.clone()));
+            let run = run(profile, &lines).unwrap();
+            assert_eq!(run.len(), 256 + bytes);
+            assert!(run.len() <= LONGEST_RUN);
+            assert!(run[..256].iter().all(|&byte| byte == 0x00));
+            for (frame, line) in run[256..].chunks(6).zip(&lines) {
+                let expected = [0x21, line.zone, line.command, 1, line.value, 0x0D];
+                assert_eq!(frame, expected);
+            }
+        }
+        assert_eq!(LONGEST_RUN, 256 + 144);
     }
 }

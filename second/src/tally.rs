@@ -7,7 +7,8 @@ use crate::frame::{Direction, Frame, Stretch};
 use crate::listing::{self, Listing};
 use crate::message::Message;
 use crate::rows::{self, Profile, ROWS};
-use crate::samples::DIRECTIONS;
+use crate::samples::{self, DIRECTIONS, PROFILES};
+use crate::sheet::{Fault, LINE_LIMIT};
 
 #[derive(Clone, Copy, PartialEq, Eq, PartialOrd, Ord)]
 pub enum Kind {
@@ -19,16 +20,30 @@ pub enum Kind {
     MinusZero(usize, Direction),
     Refusal(u8),
     SignOff(&'static str),
+    /// A full sheet that was accepted.
+    FullSheet(Profile),
+    /// A sheet longer than any full one and within the limit, by its refusal.
+    LongSheet(u8),
+    /// A sheet of that many lines.
+    SheetOf(usize),
+    /// A full sheet whose sending was cut in its last frame.
+    LastFrameCut(Profile),
     Word(&'static str),
 }
 
 pub const SIGN_OFFS: [&str; 3] = ["signed", "not signed", "refused"];
 
+/// The refusals of a sheet that is within the limit.
+const LONG_REFUSALS: [u8; 2] = [7, 8];
+
+/// The sizes that are counted: the limit, and one line more.
+const SIZES: [usize; 2] = [LINE_LIMIT, LINE_LIMIT + 1];
+
 /// The word that is counted for a line that prints `?`.
 pub const NO_OPERATION: &str = "?";
 
 impl Kind {
-    /// Every kind, with these operation words.
+    /// Every kind that operations bring, with these words.
     pub fn all(words: &[&'static str]) -> Vec<Kind> {
         let mut kinds: Vec<Kind> = Stretch::ALL.into_iter().map(Kind::Event).collect();
         kinds.extend(listing::NAMES.map(Kind::Listed));
@@ -38,6 +53,9 @@ impl Kind {
         kinds.extend(DIRECTIONS.into_iter().flat_map(Kind::minus_zeros));
         kinds.extend((1..=13).map(Kind::Refusal));
         kinds.extend(SIGN_OFFS.map(Kind::SignOff));
+        kinds.extend(PROFILES.map(Kind::FullSheet));
+        kinds.extend(LONG_REFUSALS.map(Kind::LongSheet));
+        kinds.extend(SIZES.map(Kind::SheetOf));
         kinds.extend(words.iter().copied().map(Kind::Word));
         kinds
     }
@@ -73,6 +91,19 @@ impl fmt::Display for Kind {
             }
             Kind::Refusal(number) => write!(out, "refusal {number}"),
             Kind::SignOff(result) => write!(out, "sign-off {result}"),
+            Kind::FullSheet(profile) => {
+                write!(out, "full sheet {}, accepted", profile.letter() as char)
+            }
+            Kind::LongSheet(number) => {
+                let sizes = samples::long_sizes();
+                let (first, last) = (sizes.start(), sizes.end());
+                write!(out, "sheet of {first} to {last} lines, refused {number}")
+            }
+            Kind::SheetOf(size) => write!(out, "sheet of {size} lines"),
+            Kind::LastFrameCut(profile) => {
+                let letter = profile.letter() as char;
+                write!(out, "full sheet {letter}, cut in its last frame")
+            }
             Kind::Word(word) => write!(out, "operation {word}"),
         }
     }
@@ -105,6 +136,20 @@ impl Tally {
         self.count(Kind::Row(row, direction));
         if matches!(*frame.data, [code] if ROWS[row].is_minus_zero(code)) {
             self.count(Kind::MinusZero(row, direction));
+        }
+    }
+
+    /// Counts a sheet by its size and what its checks gave.
+    pub fn sheet(&mut self, profile: Profile, size: usize, checked: Result<(), Fault>) {
+        if SIZES.contains(&size) {
+            self.count(Kind::SheetOf(size));
+        }
+        match checked {
+            Ok(()) if size == samples::most_lines(profile) => self.count(Kind::FullSheet(profile)),
+            Err(fault) if samples::long_sizes().contains(&size) => {
+                self.count(Kind::LongSheet(fault.number));
+            }
+            _ => {}
         }
     }
 

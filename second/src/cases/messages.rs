@@ -172,7 +172,7 @@ impl Cases {
         let (length, place) = self.buffer(need);
         let arguments: [&[u8]; 8] = [&p, &d, &length, &place, &zone, &command, &ac, data];
         self.add("send", &arguments);
-        if self.random.percent(40) {
+        if self.random.percent(60) {
             let (length, place) = self.buffer(need);
             let arguments: [&[u8]; 7] = [&d, &length, &place, &zone, &command, &ac, data];
             self.add("raw", &arguments);

@@ -4,7 +4,10 @@ use super::Cases;
 use crate::frame::Direction;
 use crate::rows::{Profile, Row, MINUS_ZERO, ROWS};
 use crate::samples::{self, PROFILES};
-use crate::sheet::{self, Line, RECORD, RUN_ZEROS};
+use crate::sheet::{self, Line, LINE_LIMIT, RECORD, RUN_FRAME, RUN_ZEROS};
+
+/// The least count that one byte cannot hold.
+const OVER_A_BYTE: usize = 256;
 
 impl Cases {
     /// A sheet's lines: accepted, or with one fault.
@@ -13,31 +16,15 @@ impl Cases {
         let mut lines = samples::sheet(&mut self.random, profile, size);
         match self.random.below(19) {
             0 => {
-                // 13 lines and more, legal ones first.
-                let mut more = samples::full_sheet(&mut self.random, profile);
-                more.extend(samples::full_sheet(&mut self.random, profile));
-                let size = *self.random.pick(&[12, 13, 13, 14, 15, 16]);
-                more.truncate(size);
-                lines = more;
-            }
-            1 | 2 if !lines.is_empty() => {
-                let place = self.random.below(lines.len());
-                lines[place].zone = *self.random.pick(&[0, 3, 4, 255]);
-            }
-            3 if !lines.is_empty() => {
-                let place = self.random.below(lines.len());
-                lines[place].command = match self.random.below(2) {
-                    0 => self.random.pick(&ROWS).command,
-                    _ => self.random.byte(),
+                let size = match self.random.percent(70) {
+                    true => self.size_within(profile),
+                    false => self.size_over(profile),
                 };
+                lines = self.long_lines(profile, size);
             }
-            4 | 5 if !lines.is_empty() => {
+            1..=5 if !lines.is_empty() => {
                 let place = self.random.below(lines.len());
-                let other = self.random.byte();
-                lines[place].value = *self.random.pick(&[
-                    0x01, 0x02, 0x0B, 0x10, 0x64, 0x80, 0x8B, 0x90, 0xA8, 0xA9, 0xF0, 0xF1, 0xF2,
-                    0xFF, other,
-                ]);
+                self.change(&mut lines[place]);
             }
             6 | 7 if !lines.is_empty() => {
                 // A zone and row again, with the same value or another.
@@ -60,6 +47,108 @@ impl Cases {
             _ => {}
         }
         lines
+    }
+
+    /// Another zone, command or value, mostly one that makes the line illegal.
+    fn change(&mut self, line: &mut Line) {
+        match self.random.below(5) {
+            0 | 1 => line.zone = *self.random.pick(&[0, 3, 4, 255]),
+            2 => {
+                line.command = match self.random.below(2) {
+                    0 => self.random.pick(&ROWS).command,
+                    _ => self.random.byte(),
+                }
+            }
+            _ => {
+                let other = self.random.byte();
+                line.value = *self.random.pick(&[
+                    0x01, 0x02, 0x0B, 0x10, 0x64, 0x80, 0x8B, 0x90, 0xA8, 0xA9, 0xF0, 0xF1, 0xF2,
+                    0xFF, other,
+                ]);
+            }
+        }
+    }
+
+    /// Makes lines illegal.
+    fn spoil(&mut self, profile: Profile, lines: &mut [Line]) {
+        for line in lines {
+            while sheet::legal(profile, *line) {
+                self.change(line);
+            }
+        }
+    }
+
+    /// A size within the limit that is longer than a full sheet.
+    fn size_within(&mut self, profile: Profile) -> usize {
+        let first = match self.random.percent(15) {
+            true => samples::most_lines(profile) + 1,
+            false => *samples::long_sizes().start(),
+        };
+        let any = self.random.between(first, LINE_LIMIT);
+        *self.random.pick(&[any, any, LINE_LIMIT])
+    }
+
+    /// A size over the limit.
+    fn size_over(&mut self, profile: Profile) -> usize {
+        match self.random.below(7) {
+            0..=2 => LINE_LIMIT + 1,
+            3 | 4 => self.random.between(LINE_LIMIT + 2, 2 * LINE_LIMIT),
+            // In one byte the count would be none, or a full sheet's.
+            5 => OVER_A_BYTE,
+            _ => OVER_A_BYTE + samples::most_lines(profile),
+        }
+    }
+
+    /// More lines than a full sheet has, with the lowest fault at any place.
+    fn long_lines(&mut self, profile: Profile, size: usize) -> Vec<Line> {
+        let full = samples::most_lines(profile);
+        // Legal lines, the first of them a full sheet: the line behind it is 8.
+        let mut lines = samples::sheet(&mut self.random, profile, size);
+        let any = self.random.below(size);
+        match self.random.below(15) {
+            // A zone and row again up to there, with the same value or another.
+            0..=2 => {
+                let place = self.place(1, full);
+                lines[place] = lines[self.place(0, place - 1)];
+                if self.random.percent(50) {
+                    lines[place].value = self.value(profile, lines[place]);
+                }
+            }
+            // An illegal line up to there, where it is 7.
+            3..=5 => {
+                let place = self.place(0, full);
+                self.spoil(profile, &mut lines[place..=place]);
+            }
+            // Repeats anywhere, and an illegal line.
+            6 => {
+                self.random.shuffle(&mut lines);
+                self.spoil(profile, &mut lines[any..=any]);
+            }
+            // Illegal lines alone from some line on, or behind a full sheet.
+            7 => self.spoil(profile, &mut lines[any..]),
+            8 => self.spoil(profile, &mut lines[full..]),
+            9 => self.spoil(profile, &mut lines),
+            // One line again and again.
+            10 => lines = vec![lines[0]; size],
+            _ => {}
+        }
+        lines
+    }
+
+    /// A place from first to last, the ends more often.
+    fn place(&mut self, first: usize, last: usize) -> usize {
+        let any = self.random.between(first, last);
+        *self.random.pick(&[first, any, any, last])
+    }
+
+    /// Any legal value of a legal line's row.
+    fn value(&mut self, profile: Profile, line: Line) -> u8 {
+        let values: Vec<u8> = samples::rows_of(profile)
+            .iter()
+            .filter(|row| row.command == line.command)
+            .flat_map(|row| samples::sheet_values(row))
+            .collect();
+        *self.random.pick(&values)
     }
 
     /// A sheet file of lines, now and then not whole or with a wrong mark or profile.
@@ -108,16 +197,60 @@ impl Cases {
         }
     }
 
+    /// Checks a sheet file, and writes its copy and its run.
+    fn sheet_file(&mut self, p: &[u8], file: &[u8]) {
+        self.add("check", &[p, file]);
+        let (length, place) = self.buffer(file.len());
+        self.add("copy", &[p, &length, &place, file]);
+        let (length, place) = self.buffer(RUN_ZEROS + RUN_FRAME * (file.len() / RECORD));
+        self.add("run", &[p, &length, &place, file]);
+    }
+
+    /// Full sheets and longer ones of both profiles, within the limit and over it.
+    pub(super) fn long_sheet_case(&mut self) {
+        for profile in PROFILES {
+            let full = samples::most_lines(profile);
+            let lines = samples::sheet(&mut self.random, profile, full);
+            self.long_sheet(profile, &lines);
+            for _ in 0..2 {
+                let size = self.size_within(profile);
+                let lines = self.long_lines(profile, size);
+                self.long_sheet(profile, &lines);
+            }
+            let size = self.size_over(profile);
+            let mut over = self.long_lines(profile, size);
+            self.long_sheet(profile, &over);
+            // 6 comes first, also where all lines are bad.
+            self.spoil(profile, &mut over);
+            self.long_sheet(profile, &over);
+        }
+    }
+
+    /// A full sheet or a longer one, to all that sheets go to.
+    fn long_sheet(&mut self, profile: Profile, lines: &[Line]) {
+        let mut file = self.file(profile, lines);
+        if lines.len() > LINE_LIMIT && self.random.percent(20) {
+            // 10 comes before 6, also in the last record.
+            file = sheet::records(profile, lines);
+            let place = file.len() - RECORD + self.random.below(3);
+            file[place] ^= 0x01;
+        }
+        let p = self.told(profile);
+        self.sheet_file(&p, &file);
+        // Answers that would sign it off, were it accepted.
+        let mut answered = lines.to_vec();
+        answered.retain(|&line| sheet::legal(profile, line));
+        let mut capture = Vec::new();
+        self.answers(profile, &answered, &mut capture);
+        self.add("sign", &[&p, &file, &capture]);
+    }
+
     pub(super) fn sheet_case(&mut self) {
         let profile = self.profile();
         let lines = self.lines(profile);
         let file = self.file(profile, &lines);
         let p = self.told(profile);
-        self.add("check", &[&p, &file]);
-        let (length, place) = self.buffer(file.len());
-        self.add("copy", &[&p, &length, &place, &file]);
-        let (length, place) = self.buffer(RUN_ZEROS + file.len());
-        self.add("run", &[&p, &length, &place, &file]);
+        self.sheet_file(&p, &file);
         for line in lines.iter().take(3) {
             let p = self.told(profile);
             self.add("legal", &[&p, &[line.zone], &[line.command], &[line.value]]);
@@ -206,13 +339,8 @@ impl Cases {
             return;
         };
         // Another legal value for the chosen line's cell, if it has one.
-        let rows = samples::rows_of(profile);
-        let values: Vec<u8> = rows
-            .iter()
-            .filter(|row| row.command == chosen.command)
-            .flat_map(|row| samples::sheet_values(row))
-            .collect();
-        let stale = samples::answer(chosen.zone, chosen.command, *self.random.pick(&values));
+        let value = self.value(profile, chosen);
+        let stale = samples::answer(chosen.zone, chosen.command, value);
         let code = self.random.between(0x82, 0x86) as u8;
         let denied = samples::denied(chosen.zone, chosen.command, code);
         // Read as zero or refused, by the chosen line's row.

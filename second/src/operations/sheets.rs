@@ -3,7 +3,7 @@
 use super::{profile_of, written, Answer, Refusal, Reply};
 use crate::frame;
 use crate::rows::Profile;
-use crate::sheet::{self, Fault, Line};
+use crate::sheet::{self, Fault, Line, RECORD};
 use crate::tally::{Kind, Tally};
 use crate::text;
 use crate::tracker::Tracker;
@@ -23,9 +23,20 @@ pub(super) fn legal(p: u8, line: Line) -> Answer {
     })
 }
 
-pub(super) fn check(p: u8, file: &[u8]) -> Answer {
+/// Reads a sheet file, and counts the sheet that it is.
+fn read_file(profile: Profile, file: &[u8], tally: &mut Tally) -> Result<Vec<Line>, Fault> {
+    let read = sheet::read_file(profile, file);
+    let checked = read.as_ref().map(|_| ()).map_err(|&fault| fault);
+    // What is 10 is no sheet.
+    if !matches!(checked, Err(Fault { number: 10, .. })) {
+        tally.sheet(profile, file.len() / RECORD, checked);
+    }
+    read
+}
+
+pub(super) fn check(p: u8, file: &[u8], tally: &mut Tally) -> Answer {
     let profile = profile_of(p).map_err(at_zero)?;
-    let lines = sheet::read_file(profile, file)?;
+    let lines = read_file(profile, file, tally)?;
     let printed: Vec<String> = lines
         .iter()
         .map(|line| text::hex(&[line.zone, line.command, line.value]))
@@ -43,10 +54,11 @@ pub(super) fn sheet_bytes(
     place: u64,
     file: &[u8],
     bytes: fn(Profile, &[Line]) -> Result<Vec<u8>, Fault>,
+    tally: &mut Tally,
 ) -> Reply {
     let mut reply = written(length, place, || {
         let profile = profile_of(p)?;
-        let lines = sheet::read_file(profile, file)?;
+        let lines = read_file(profile, file, tally)?;
         Ok(bytes(profile, &lines)?)
     });
     // Operations on sheets print a place with every refusal.
@@ -57,7 +69,7 @@ pub(super) fn sheet_bytes(
 }
 
 pub(super) fn sign(p: u8, file: &[u8], capture: &[u8], tally: &mut Tally) -> Answer {
-    let signed = sign_off(p, file, capture);
+    let signed = sign_off(p, file, capture, tally);
     let result = match signed {
         Ok(true) => "signed",
         Ok(false) => "not signed",
@@ -67,10 +79,10 @@ pub(super) fn sign(p: u8, file: &[u8], capture: &[u8], tally: &mut Tally) -> Ans
     signed.map(|_| result.to_string())
 }
 
-fn sign_off(p: u8, file: &[u8], capture: &[u8]) -> Result<bool, Refusal> {
+fn sign_off(p: u8, file: &[u8], capture: &[u8], tally: &mut Tally) -> Result<bool, Refusal> {
     let profile = profile_of(p).map_err(at_zero)?;
     frame::check_capture(capture).map_err(at_zero)?;
-    let lines = sheet::read_file(profile, file)?;
+    let lines = read_file(profile, file, tally)?;
     let mut tracker = Tracker::new(profile);
     tracker.feed_capture(capture);
     Ok(tracker.signs_off(&lines))
