@@ -166,13 +166,15 @@ mod tests {
                     .filter_map(|line| Some((lines_of(line)?, print(line))))
                     .collect();
                 let of_size = |sizes: RangeInclusive<usize>| {
-                    let has_size = move |lines: &[Line]| sizes.contains(&lines.len());
-                    sheets.iter().filter(move |(lines, _)| has_size(lines))
+                    let mine = sheets.iter();
+                    mine.filter(move |(lines, _)| sizes.contains(&lines.len()))
                 };
-                let is_full = |printed: &str| printed.starts_with(&accepted);
                 let mut fulls = of_size(full..=full);
-                assert!(fulls.any(|(_, printed)| is_full(printed)), "{word} {p}");
-                // Each number at the first line, behind a full sheet and at many between.
+                assert!(
+                    fulls.any(|(_, printed)| printed.starts_with(&accepted)),
+                    "{word} {p}"
+                );
+                // Each number at the lowest line that can have it, behind a full sheet and at many between.
                 for (number, first) in [(7, 0), (8, 1)] {
                     let places: BTreeSet<usize> = of_size(16..=24)
                         .filter_map(|(_, printed)| place(printed, number))

@@ -417,12 +417,9 @@ mod tests {
 
     /// A sheet file of that many lines: a full sheet, then the same lines again.
     fn file(p: &str, count: usize) -> String {
-        let (commands, zones) = match p {
-            "41" => (
-                vec!["38", "39", "3A", "45", "46"],
-                ["01", "02", "03"].as_slice(),
-            ),
-            _ => (vec!["0D", "0E", "5B", "5C"], ["01", "02"].as_slice()),
+        let (commands, zones): (&[&str], &[&str]) = match p {
+            "41" => (&["38", "39", "3A", "45", "46"], &["01", "02", "03"]),
+            _ => (&["0D", "0E", "5B", "5C"], &["01", "02"]),
         };
         let cells = zones
             .iter()

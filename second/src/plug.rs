@@ -85,15 +85,25 @@ pub struct Outcome {
     tally: Tally,
 }
 
+/// The kinds of cells that are counted.
+fn minus_zero_kinds() -> Vec<Kind> {
+    Kind::minus_zeros(Direction::Answer)
+}
+
+/// The kinds of cuts that are counted.
+fn last_frame_kinds() -> [Kind; PROFILES.len()] {
+    PROFILES.map(Kind::LastFrameCut)
+}
+
 impl Outcome {
     /// Cells whose last answer was minus zero, of all rows.
     pub fn minus_zeros(&self) -> u64 {
-        self.sum(&Kind::minus_zeros(Direction::Answer))
+        self.sum(&minus_zero_kinds())
     }
 
     /// Cuts in the last frame of a full sheet, of both profiles.
     pub fn last_frame_cuts(&self) -> u64 {
-        self.sum(&PROFILES.map(Kind::LastFrameCut))
+        self.sum(&last_frame_kinds())
     }
 
     fn sum(&self, kinds: &[Kind]) -> u64 {
@@ -102,8 +112,8 @@ impl Outcome {
 
     /// The kinds that never occurred.
     pub fn missing(&self) -> Vec<Kind> {
-        let mut kinds = Kind::minus_zeros(Direction::Answer);
-        kinds.extend(PROFILES.map(Kind::LastFrameCut));
+        let mut kinds = minus_zero_kinds();
+        kinds.extend(last_frame_kinds());
         kinds.retain(|&kind| self.tally.of(kind) == 0);
         kinds
     }
@@ -433,6 +443,7 @@ fn every_cut(
     let unit = started(random, sheet.profile, prefix);
     let watch = Watch::new(sheet, unit.settings.clone());
     let chosen = random.between(0, run.len());
+    let full = sheet.is_full();
     let mut told = None;
     let mut first = Session::new(unit);
     for cut in 0..=run.len() {
@@ -451,7 +462,7 @@ fn every_cut(
             .map_err(describe)?;
         outcome.cuts += 1;
         // Some bytes of the last frame were sent and some were not.
-        if sheet.is_full() && (1..sheet::RUN_FRAME).contains(&(run.len() - cut)) {
+        if full && (1..sheet::RUN_FRAME).contains(&(run.len() - cut)) {
             outcome.tally.count(Kind::LastFrameCut(sheet.profile));
         }
         if cut == chosen {

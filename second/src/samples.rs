@@ -271,10 +271,10 @@ pub fn most_lines(profile: Profile) -> usize {
     sheet_cells(profile).len()
 }
 
-/// The sizes that the limit allows and no profile's sheet can have.
+/// The sizes that the limit allows and no accepted sheet has.
 pub fn long_sizes() -> RangeInclusive<usize> {
-    let most = PROFILES.into_iter().map(most_lines).max();
-    most.map_or(0, |most| most + 1)..=LINE_LIMIT
+    let most = PROFILES.into_iter().map(most_lines).fold(0, usize::max);
+    most + 1..=LINE_LIMIT
 }
 
 /// Every zone of every sheet row, with a random legal value, in random order.

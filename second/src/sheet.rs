@@ -7,6 +7,7 @@ use crate::rows::{self, Profile, ROWS};
 pub const LINE_LIMIT: usize = 24;
 /// The bytes of a line in a sheet file.
 pub const RECORD: usize = 6;
+/// The zeros that a run begins with.
 pub const RUN_ZEROS: usize = 256;
 /// The bytes of a line in a run.
 pub const RUN_FRAME: usize = 6;

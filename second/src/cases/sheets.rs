@@ -10,7 +10,7 @@ use crate::sheet::{self, Line, LINE_LIMIT, RECORD, RUN_FRAME, RUN_ZEROS};
 const OVER_A_BYTE: usize = 256;
 
 impl Cases {
-    /// A sheet's lines: accepted, or with one fault.
+    /// A sheet's lines: accepted, or at fault.
     fn lines(&mut self, profile: Profile) -> Vec<Line> {
         let size = self.random.between(0, samples::most_lines(profile));
         let mut lines = samples::sheet(&mut self.random, profile, size);
@@ -99,7 +99,7 @@ impl Cases {
         }
     }
 
-    /// More lines than a full sheet has, with the lowest fault at any place.
+    /// More lines than a full sheet has; the lowest fault is at any place up to the line behind it.
     fn long_lines(&mut self, profile: Profile, size: usize) -> Vec<Line> {
         let full = samples::most_lines(profile);
         // Legal lines, the first of them a full sheet: the line behind it is 8.
@@ -124,7 +124,7 @@ impl Cases {
                 self.random.shuffle(&mut lines);
                 self.spoil(profile, &mut lines[any..=any]);
             }
-            // Illegal lines alone from some line on, or behind a full sheet.
+            // Illegal lines alone: from some line on, behind a full sheet, or all.
             7 => self.spoil(profile, &mut lines[any..]),
             8 => self.spoil(profile, &mut lines[full..]),
             9 => self.spoil(profile, &mut lines),
@@ -237,7 +237,7 @@ impl Cases {
         }
         let p = self.told(profile);
         self.sheet_file(&p, &file);
-        // Answers that would sign it off, were it accepted.
+        // Answers to its legal lines, with one thing more or less.
         let mut answered = lines.to_vec();
         answered.retain(|&line| sheet::legal(profile, line));
         let mut capture = Vec::new();
