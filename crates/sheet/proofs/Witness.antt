@@ -10,7 +10,7 @@ use Rattle.sheet.specs.Line.{isLegal}
 use Rattle.sheet.specs.Check.{lowestFault, sheetVerdict}
 use Rattle.sheet.specs.declared.check.Verdict.the-variants.{Refused}
 
--- document 02, C-15: "6 now from 25 lines": before all, whatever the lines are, with the limit as its place
+-- document 02, C-15: "6 now from 25 lines", before 7 and with the limit as its place; up to the limit the lines are judged
 pub limit-judged : map (λ (n : ℕ). sheetVerdict A (replicate n (record { zone = 9; command = 0x99; value = 0x00 }))) (13 ∷ 24 ∷ 25 ∷ 40 ∷ [])
     ≡ Refused 7 0 ∷ Refused 7 0 ∷ Refused 6 24 ∷ Refused 6 24 ∷ []
 unfolding sheetVerdict lowestFault isLegal rowJudged firstRow table

@@ -51,7 +51,7 @@ pub none-accepted : sheetVerdict A [] ≡ Accepted
 unfolding sheetVerdict lowestFault
 none-accepted = refl
 
--- 16 to 24 lines are within the limit, and more than a family has zones and sheet rows for: what the first so many of some lines are
+-- what the first 16 to 24 of some lines are: within the limit, and more than a family has zones and sheet rows for
 abbrev longer : Profile → List Line → List Verdict
 longer profile ls =
     map (λ (n : ℕ). sheetVerdict profile (take n ls)) (16 ∷ 17 ∷ 18 ∷ 19 ∷ 20 ∷ 21 ∷ 22 ∷ 23 ∷ 24 ∷ [])

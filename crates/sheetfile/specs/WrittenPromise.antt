@@ -28,8 +28,8 @@ pub record WrittenPromise (v : Verdict) (buf : List ℕ) (at : ℕ) (bytes : Lis
   pub before : take at (sheetLeft v buf at bytes) ≡ take at buf
   pub after : drop (at + length bytes) (sheetLeft v buf at bytes) ≡ drop (at + length bytes) buf
 
--- "256 + 6n bytes", so one room is enough for any accepted sheet's run, and six bytes a line; a file that was written reads back from
--- its place in the buffer
+-- "256 + 6n bytes", so there is one room for any accepted sheet's run; a file has six bytes a line, and one that was written reads back
+-- from its place in the buffer
 pub record SizePromise (profile : Profile) (ls : List Line) : Type 0 where
   pub run : length (runOf ls) ≡ flush + recordSize * length ls
   pub room : sheetVerdict profile ls ≡ verdict.Accepted → length (runOf ls) ≤ flush + recordSize * sheetLimit
