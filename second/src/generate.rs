@@ -174,7 +174,7 @@ mod tests {
                     fulls.any(|(_, printed)| printed.starts_with(&accepted)),
                     "{word} {p}"
                 );
-                // Each number at the lowest line that can have it, behind a full sheet and at many between.
+                // Each number at its lowest place, behind a full sheet and at many between.
                 for (number, first) in [(7, 0), (8, 1)] {
                     let places: BTreeSet<usize> = of_size(16..=24)
                         .filter_map(|(_, printed)| place(printed, number))

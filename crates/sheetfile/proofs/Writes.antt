@@ -17,11 +17,11 @@ use Rattle.sheetfile.specs.Run.{flush, runOf}
 use Rattle.sheetfile.specs.Written.{asSheet, sheetAnswered, sheetLeft, fileLeft, sheetWrittenNumber, sheetWrittenCount}
 use Rattle.sheetfile.specs.WrittenPromise.{WrittenPromise, SizePromise}
 use Rattle.sheet.specs.declared.line.Line.{Line}
-use Rattle.sheet.proofs.Sheets.{sheet-promise}
 use Rattle.sheet.specs.declared.check.Verdict.{Verdict}
 use Rattle.sheet.specs.declared.check.Verdict.the-variants as verdict
 use Rattle.sheetfile.specs.declared.write.Form.the-variants as form
 use Rattle.sheetfile.specs.declared.write.SheetWritten.the-variants.{Bytes, Refused}
+use Rattle.sheet.proofs.Sheets.{sheet-promise}
 use Rattle.sheetfile.proofs.Filled.{sheet-length}
 use Rattle.sheetfile.proofs.Trips.{trip-read}
 
