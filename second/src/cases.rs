@@ -33,11 +33,12 @@ impl Cases {
             self.limit_case(index / LIMIT_EVERY);
         } else {
             match self.random.below(100) {
-                0..=25 => self.capture_case(),
-                26..=49 => self.message_case(),
-                50..=54 => self.signed_case(),
-                55..=58 => self.step_case(),
-                59..=70 => self.sheet_case(),
+                0..=23 => self.capture_case(),
+                24..=47 => self.message_case(),
+                48..=52 => self.signed_case(),
+                53..=56 => self.step_case(),
+                57..=68 => self.sheet_case(),
+                69 | 70 => self.empty_sheet_case(),
                 71..=75 => self.long_sheet_case(),
                 76..=87 => self.history_case(),
                 88..=97 => self.small_case(),
@@ -181,5 +182,27 @@ impl Cases {
             _ => "pieces 1001 4143".to_string(),
         };
         self.lines.push(line);
+    }
+}
+
+#[cfg(test)]
+mod tests {
+    use super::*;
+    use crate::operations;
+    use crate::tally::{Kind, Tally};
+
+    #[test]
+    fn a_case_of_empty_sheets_brings_both_kinds_of_runs() {
+        for seed in 0..200 {
+            let mut cases = Cases::new(seed);
+            cases.empty_sheet_case();
+            let mut tally = Tally::default();
+            for line in &cases.lines {
+                operations::run(line.as_bytes(), &mut String::new(), &mut tally);
+            }
+            // A place inside and one at the end, and two past it, of each family.
+            assert!(tally.of(Kind::EmptyRun) >= 4, "{seed}");
+            assert!(tally.of(Kind::EmptyRunPastEnd) >= 4, "{seed}");
+        }
     }
 }

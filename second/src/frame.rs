@@ -335,6 +335,55 @@ mod tests {
         assert_eq!(reader.take(0x00), Step::Broken(261));
     }
 
+    /// A reader of commands that has taken so many bytes of an old frame with that Dl.
+    fn stopped(data_length: usize, taken: usize) -> Reader {
+        let mut reader = Reader::new(Direction::Command);
+        let header = [OPENING, END, OPENING, data_length as u8];
+        let old = header.into_iter().chain([END, OPENING].into_iter().cycle());
+        for byte in old.take(taken) {
+            assert_eq!(reader.take(byte), Step::Waiting);
+        }
+        reader
+    }
+
+    #[test]
+    fn zeros_fill_an_old_frame_and_break_it_at_its_end_place() {
+        for data_length in 0..=DATA_LIMIT {
+            // Zeros fill the header's places too, and then Dl is 0: these come once.
+            let first = match data_length {
+                0 => 0,
+                _ => 4,
+            };
+            for taken in first..=4 + data_length {
+                let mut reader = stopped(data_length, taken);
+                let waits = match taken {
+                    0 => 0,
+                    _ => 4 + data_length - taken,
+                };
+                for zeros in 0..=256 {
+                    let mut next = reader.clone();
+                    next.take(OPENING);
+                    // Outside or at the end place, 21 opens the next frame.
+                    assert_eq!(
+                        next.taken == 1,
+                        zeros >= waits,
+                        "{data_length} {taken} {zeros}"
+                    );
+                    let step = match zeros {
+                        _ if taken == 0 || zeros > waits => Step::Noise,
+                        _ if zeros < waits => Step::Waiting,
+                        _ => Step::Broken(5 + data_length),
+                    };
+                    assert_eq!(reader.take(0x00), step, "{data_length} {taken} {zeros}");
+                }
+                assert_eq!(reader.taken, 0);
+                // The longest wait: 254 zeros are too few, 255 are enough.
+                assert_eq!(waits > 254, (data_length, taken) == (255, 4));
+                assert!(waits <= 255);
+            }
+        }
+    }
+
     #[test]
     fn a_place_past_the_end_is_9() {
         let mut buffer = [0xAA; 4];

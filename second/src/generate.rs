@@ -156,7 +156,7 @@ mod tests {
             for (word, accepted) in [
                 ("check", format!("accepted {full} ")),
                 ("copy", format!("bytes {} ", 6 * full)),
-                ("run", format!("bytes {} ", 256 + 6 * full)),
+                ("run", format!("bytes {} ", 255 + 6 * full)),
                 ("sign", "signed".to_string()),
             ] {
                 // The lines of each sheet file, and what the operation printed.
@@ -205,6 +205,51 @@ mod tests {
                 assert!(of_size(25..=300).any(|(_, printed)| past(printed)));
             }
         }
+    }
+
+    #[test]
+    fn runs_come_to_the_ends_of_their_buffers() {
+        let lines = enough_lines();
+        for (p, profile) in [("41", Profile::A), ("53", Profile::S)] {
+            // Of accepted sheets: the run's length, the room for it, and what was printed.
+            let runs: Vec<(i128, i128, String)> = lines
+                .iter()
+                .filter_map(|line| {
+                    let (room, file) = room(line.strip_prefix(&format!("run {p} "))?)?;
+                    let count = sheet::read_file(profile, &file).ok()?.len();
+                    Some((sheet::run_length(count) as i128, room, print(line)))
+                })
+                .collect();
+            let comes = |empty: bool, is_so: fn(i128, i128) -> bool, prints: fn(i128) -> String| {
+                let mut found = runs
+                    .iter()
+                    .filter(|(need, room, _)| (*need == 0) == empty && is_so(*need, *room));
+                found.any(|(need, _, printed)| printed.starts_with(&prints(*need)))
+            };
+            let written = |need| format!("bytes {need} : ");
+            let refused = |_| "refused 9 at 0 : ".to_string();
+            for empty in [false, true] {
+                assert!(comes(empty, |need, room| room == need, written));
+                assert!(comes(empty, |need, room| room > need, written));
+                // One past the end, and as far past it as a number goes.
+                assert!(comes(empty, |_, room| room == -1, refused));
+                assert!(comes(empty, |_, room| room < -(1 << 63), refused));
+            }
+            // One too few, and a place at the end.
+            assert!(comes(false, |need, room| room == need - 1, refused));
+            assert!(comes(false, |_, room| room == 0, refused));
+        }
+    }
+
+    /// The room from a place on, less than none past the end, and the file of a writing on sheets.
+    fn room(arguments: &str) -> Option<(i128, Vec<u8>)> {
+        let arguments: Option<Vec<Vec<u8>>> = arguments
+            .split(' ')
+            .map(|argument| text::bytes(argument.as_bytes()))
+            .collect();
+        let [length, place, file] = arguments?.try_into().ok()?;
+        let room = i128::from(text::number(&length)?) - i128::from(text::number(&place)?);
+        Some((room, file))
     }
 
     /// The lines of an operation's sheet file, whatever its marks are.

@@ -128,13 +128,14 @@ fn plug(
             save(ops, &outcome.ops)?;
             save(expected, &outcome.expected)?;
             print(&format!(
-                "sheets {} cuts {} bytes {} cells {} minus zeros {} last frame cuts {}\n",
+                "sheets {} cuts {} bytes {} cells {} minus zeros {} last frame cuts {} stops {}\n",
                 outcome.sheets,
                 outcome.cuts,
                 outcome.bytes,
                 outcome.cells,
                 outcome.minus_zeros(),
-                outcome.last_frame_cuts()
+                outcome.last_frame_cuts(),
+                outcome.stops()
             ))?;
             tell_missing(&outcome.missing(), outcome.sheets >= plug::ENOUGH)
         }

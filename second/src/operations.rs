@@ -174,8 +174,7 @@ fn reply(line: &[u8], tally: &mut Tally) -> Option<Reply> {
             sheets::sheet_bytes(one(p)?, size(length)?, place, file, sheet::file, tally)
         }
         ("run", [p, length, place, file]) => {
-            let place = text::number(place)?;
-            sheets::sheet_bytes(one(p)?, size(length)?, place, file, sheet::run, tally)
+            sheets::run(one(p)?, size(length)?, text::number(place)?, file, tally)
         }
         ("sign", [p, file, capture]) => sheets::sign(one(p)?, file, capture, tally).into(),
         ("cell", [p, capture, zone, command]) => {
@@ -442,9 +441,9 @@ mod tests {
 
     #[test]
     fn full_sheets_are_accepted() {
-        let answered = ["accepted 15", "refused 9 at 0", "bytes 346", "not signed"];
+        let answered = ["accepted 15", "refused 9 at 0", "bytes 345", "not signed"];
         assert_eq!(answers("41", &file("41", 15)), answered);
-        let answered = ["accepted 8", "refused 9 at 0", "bytes 304", "not signed"];
+        let answered = ["accepted 8", "refused 9 at 0", "bytes 303", "not signed"];
         assert_eq!(answers("53", &file("53", 8)), answered);
         for (p, count) in [("41", 15), ("53", 8)] {
             let full = file(p, count);
@@ -462,10 +461,10 @@ mod tests {
             );
             let frame = |line: &&str| format!("21{}01{}0D", &line[..4], &line[4..]);
             let frames: String = lines.iter().map(frame).collect();
-            let bytes = 256 + bytes;
+            let bytes = 255 + bytes;
             assert_eq!(
                 print(&format!("run {p} {bytes:04X} - {full}")),
-                format!("bytes {bytes} : {}{frames}", "00".repeat(256))
+                format!("bytes {bytes} : {}{frames}", "00".repeat(255))
             );
             let short = bytes - 1;
             assert_eq!(
@@ -479,6 +478,84 @@ mod tests {
                 print(&format!("sign {p} {full} {}", &capture[14..])),
                 "not signed"
             );
+        }
+    }
+
+    #[test]
+    fn a_run_of_one_line_has_261_bytes() {
+        for (p, record, frame) in [
+            ("41", "534C41013801", "21013801010D"),
+            ("53", "534C53020D0D", "21020D010D0D"),
+        ] {
+            let run = format!("{}{frame}", "00".repeat(255));
+            let refused = |length| format!("refused 9 at 0 : {}", "AA".repeat(length));
+            // Just enough, one more before it and one behind it, and one too few.
+            for (buffer, printed) in [
+                ("0105 -", format!("bytes 261 : {run}")),
+                ("0106 01", format!("bytes 261 : AA{run}")),
+                ("0106 -", format!("bytes 261 : {run}AA")),
+                ("0104 -", refused(260)),
+                ("0105 01", refused(261)),
+                ("0105 0105", refused(261)),
+                ("0105 0106", refused(261)),
+            ] {
+                assert_eq!(print(&format!("run {p} {buffer} {record}")), printed);
+            }
+        }
+    }
+
+    #[test]
+    fn an_empty_sheet_writes_no_bytes_and_is_9_only_past_the_end() {
+        for word in ["run", "copy"] {
+            for p in ["41", "53"] {
+                for (buffer, printed) in [
+                    ("- -", "bytes 0 : -"),
+                    ("- 01", "refused 9 at 0 : -"),
+                    ("02 -", "bytes 0 : AAAA"),
+                    ("02 01", "bytes 0 : AAAA"),
+                    ("02 02", "bytes 0 : AAAA"),
+                    ("02 03", "refused 9 at 0 : AAAA"),
+                    ("02 0102", "refused 9 at 0 : AAAA"),
+                    ("02 FFFFFFFFFFFFFFFF", "refused 9 at 0 : AAAA"),
+                ] {
+                    assert_eq!(print(&format!("{word} {p} {buffer} -")), printed);
+                }
+            }
+            // 12 and 10 come before 9.
+            assert_eq!(print(&format!("{word} 58 - 01 -")), "refused 12 at 0 : -");
+            assert_eq!(print(&format!("{word} 41 - 01 53")), "refused 10 at 0 : -");
+        }
+        let longest = format!("bytes 0 : {}", "AA".repeat(4_096));
+        assert_eq!(print("run 41 1000 1000 -"), longest);
+    }
+
+    #[test]
+    fn runs_of_no_bytes_are_counted() {
+        let kinds = [Kind::EmptyRun, Kind::EmptyRunPastEnd];
+        let all = Kind::all(&WORDS);
+        assert!(kinds.iter().all(|kind| all.contains(kind)));
+        let counted = |line: &str| {
+            let mut tally = Tally::default();
+            run(line.as_bytes(), &mut String::new(), &mut tally);
+            kinds.map(|kind| tally.of(kind))
+        };
+        assert_eq!(counted("run 41 - - -"), [1, 0]);
+        assert_eq!(counted("run 53 02 02 -"), [1, 0]);
+        assert_eq!(counted("run 53 02 03 -"), [0, 1]);
+        assert_eq!(counted("run 41 02 FFFFFFFFFFFFFFFF -"), [0, 1]);
+        // No other operation, no other sheet, and no sheet that is refused.
+        for line in [
+            "copy 41 - - -",
+            "copy 41 - 01 -",
+            "check 41 -",
+            "run 58 - - -",
+            "run 58 - 01 -",
+            "run 41 - - 53",
+            "run 41 - 01 53",
+            "run 41 - 01 534C41013801",
+            "run 41 0105 - 534C41013801",
+        ] {
+            assert_eq!(counted(line), [0, 0], "{line}");
         }
     }
 

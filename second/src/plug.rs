@@ -1,6 +1,6 @@
 //! The pulled plug: runs cut anywhere, sent to a unit that stopped anywhere.
 
-use std::fmt::Write as _;
+use std::fmt::{self, Write as _};
 
 use crate::frame::{Direction, Frame, DATA_LIMIT, END, OPENING};
 use crate::random::Random;
@@ -52,6 +52,10 @@ impl Sheet {
     fn is_full(&self) -> bool {
         self.lines.len() == samples::most_lines(self.profile)
     }
+
+    fn is_one_line(&self) -> bool {
+        self.lines.len() == 1
+    }
 }
 
 /// The operations that write the runs, a line each.
@@ -81,7 +85,7 @@ pub struct Outcome {
     pub cuts: u64,
     pub bytes: u64,
     pub cells: u64,
-    /// Cells whose last answer was minus zero, and cuts in the last frame of a full sheet.
+    /// Cells whose last answer was minus zero, cuts in the last frame of a full sheet, and stops.
     tally: Tally,
 }
 
@@ -95,6 +99,11 @@ fn last_frame_kinds() -> [Kind; PROFILES.len()] {
     PROFILES.map(Kind::LastFrameCut)
 }
 
+/// The kinds of stops that are counted.
+fn stop_kinds() -> [Kind; PROFILES.len()] {
+    PROFILES.map(Kind::Stop)
+}
+
 impl Outcome {
     /// Cells whose last answer was minus zero, of all rows.
     pub fn minus_zeros(&self) -> u64 {
@@ -106,6 +115,11 @@ impl Outcome {
         self.sum(&last_frame_kinds())
     }
 
+    /// Full runs sent to a reader stopped at one of its places, of both profiles.
+    pub fn stops(&self) -> u64 {
+        self.sum(&stop_kinds())
+    }
+
     fn sum(&self, kinds: &[Kind]) -> u64 {
         kinds.iter().map(|&kind| self.tally.of(kind)).sum()
     }
@@ -114,6 +128,7 @@ impl Outcome {
     pub fn missing(&self) -> Vec<Kind> {
         let mut kinds = minus_zero_kinds();
         kinds.extend(last_frame_kinds());
+        kinds.extend(stop_kinds());
         kinds.retain(|&kind| self.tally.of(kind) == 0);
         kinds
     }
@@ -141,6 +156,25 @@ impl Watch {
             }
         }
         Watch { start, wanted }
+    }
+
+    /// Random settings with none of the sheet's values, so that a line that is not set shows.
+    fn unset(random: &mut Random, sheet: &Sheet) -> Watch {
+        loop {
+            let watch = Watch::new(sheet, Settings::random(random, sheet.profile));
+            if !watch.starts_set() {
+                return watch;
+            }
+        }
+    }
+
+    /// Whether one of the sheet's values is held from the start.
+    fn starts_set(&self) -> bool {
+        let starts = self.start.values.iter().zip(&self.wanted);
+        starts.zip(&ROWS).any(|((start, wanted), row)| {
+            let mut cells = start.iter().zip(wanted);
+            cells.any(|(&value, wanted)| wanted.is_some_and(|wanted| row.same(value, wanted)))
+        })
     }
 
     /// At every moment; after a full run `done` asks for the sheet's values.
@@ -346,11 +380,16 @@ fn requests(random: &mut Random, profile: Profile) -> Vec<u8> {
 /// A unit with random settings whose reader is stopped after a prefix.
 fn started(random: &mut Random, profile: Profile, prefix: &[u8]) -> Unit {
     let mut unit = Unit::new(profile, Settings::random(random, profile));
-    for &byte in prefix {
-        let answer = unit.take(byte);
-        assert!(answer.is_none(), "a prefix completes no frame");
-    }
+    stop(&mut unit, prefix);
     unit
+}
+
+/// Stops a unit's reader after bytes that complete no frame.
+fn stop(unit: &mut Unit, bytes: &[u8]) {
+    for &byte in bytes {
+        let answer = unit.take(byte);
+        assert!(answer.is_none(), "a stopped frame is not completed");
+    }
 }
 
 /// The run that an answer to `run` holds.
@@ -415,8 +454,15 @@ fn scenarios(
         some = random_cuts(random, sheet, run, outcome)?;
     }
     let after = after_commands(random, sheet, run, outcome)?;
+    // The places are the same for every sheet, so that one of each family is enough.
+    if sheet.is_one_line() && outcome.tally.of(Kind::Stop(sheet.profile)) == 0 {
+        if let Some(wrong) = every_stop(random, sheet, run, outcome).first() {
+            return Err(wrong.to_string());
+        }
+    }
     let mut told = random.pick(&[every, some, after]).clone();
-    // Requests change nothing, and tell of settings that no run sets.
+    // Requests change nothing, and tell of settings that no run sets. A reader that an empty run
+    // left in an old frame takes some of them for its data, and completes no setting by them.
     let watch = Watch::new(sheet, told.unit.settings.clone());
     let requests = requests(random, sheet.profile);
     told.finish(sheet.profile, &watch, &requests, outcome)
@@ -530,6 +576,59 @@ fn after_commands(
     Ok(session)
 }
 
+/// Where a full run went wrong: the bytes that the reader was stopped after, and what it set.
+struct WrongStop {
+    prefix: Vec<u8>,
+    wrong: String,
+}
+
+impl fmt::Display for WrongStop {
+    fn fmt(&self, out: &mut fmt::Formatter) -> fmt::Result {
+        let prefix = text::hex(&self.prefix);
+        write!(out, "stopped after {prefix}, a full run: {}", self.wrong)
+    }
+}
+
+/// An old command of that Dl but for its end, in a row of the profile; many data are 0D or 21.
+fn old_frame(random: &mut Random, profile: Profile, data_length: u8) -> Vec<u8> {
+    let row = *random.pick(&samples::rows_of(profile));
+    let zone = samples::zone(random, row);
+    let mut bytes = vec![OPENING, zone, row.command, data_length];
+    bytes.extend(samples::mixed(random, usize::from(data_length)));
+    bytes
+}
+
+/// A full run from every place where a reader can stand; gives those where it went wrong.
+fn every_stop(
+    random: &mut Random,
+    sheet: &Sheet,
+    run: &[u8],
+    outcome: &mut Outcome,
+) -> Vec<WrongStop> {
+    let mut wrongs = Vec::new();
+    for data_length in 0..=0xFF {
+        let old = old_frame(random, sheet.profile, data_length);
+        let watch = Watch::unset(random, sheet);
+        let mut unit = Unit::new(sheet.profile, watch.start.clone());
+        // Outside and in the header Dl is not known yet, so these places come once.
+        let first = match data_length {
+            0 => 0,
+            _ => Direction::Command.header(),
+        };
+        stop(&mut unit, &old[..first]);
+        for taken in first..=old.len() {
+            let mut session = Session::new(unit.clone());
+            if let Err(wrong) = session.finish(sheet.profile, &watch, run, outcome) {
+                let prefix = old[..taken].to_vec();
+                wrongs.push(WrongStop { prefix, wrong });
+            }
+            outcome.tally.count(Kind::Stop(sheet.profile));
+            stop(&mut unit, old.get(taken..=taken).unwrap_or_default());
+        }
+    }
+    wrongs
+}
+
 #[cfg(test)]
 mod tests {
     use super::*;
@@ -552,8 +651,9 @@ mod tests {
         };
         assert_eq!(outcome.sheets, 40);
         assert_eq!(print(&outcome.ops), outcome.expected);
-        // Units that answered 80 in each row are among them, and full sheets.
+        // Units that answered 80 in each row are among them, full sheets, and one line's stops.
         assert!(outcome.missing().is_empty());
+        assert_eq!(outcome.stops(), 2 * PLACES);
     }
 
     #[test]
@@ -581,8 +681,8 @@ mod tests {
         let last_frames = PROFILES.map(Kind::LastFrameCut);
         let sheets = sheets(3, 2);
         for (sheet, cuts, other) in [
-            (&sheets[0], 256 + 90 + 1, last_frames[1]),
-            (&sheets[1], 256 + 48 + 1, last_frames[0]),
+            (&sheets[0], 255 + 90 + 1, last_frames[1]),
+            (&sheets[1], 255 + 48 + 1, last_frames[0]),
         ] {
             let run = printed_run(print(&sheet.operation()).trim_end()).unwrap();
             let mut outcome = Outcome::default();
@@ -604,6 +704,72 @@ mod tests {
                 assert!(outcome.missing().contains(&kind));
             }
         }
+    }
+
+    /// Outside, three in the header, and for each Dl those of the data and the end.
+    const PLACES: u64 = 1 + 3 + 256 * 257 / 2;
+
+    /// A sheet of one line for each family.
+    fn one_liners(random: &mut Random) -> [Sheet; PROFILES.len()] {
+        PROFILES.map(|profile| Sheet {
+            profile,
+            lines: samples::sheet(random, profile, 1),
+        })
+    }
+
+    #[test]
+    fn a_line_is_set_from_every_place_and_one_zero_less_fails_at_one() {
+        let mut random = Random::new(3);
+        for sheet in one_liners(&mut random) {
+            let run = printed_run(print(&sheet.operation()).trim_end()).unwrap();
+            let mut outcome = Outcome::default();
+            assert!(every_stop(&mut random, &sheet, &run, &mut outcome).is_empty());
+            assert_eq!(outcome.tally.of(Kind::Stop(sheet.profile)), PLACES);
+            assert_eq!(outcome.stops(), PLACES);
+            let wrongs = every_stop(&mut random, &sheet, &run[1..], &mut outcome);
+            let [wrong] = wrongs.as_slice() else {
+                panic!("{} places fail", wrongs.len());
+            };
+            assert_eq!((wrong.prefix.len(), wrong.prefix[3]), (4, 0xFF));
+            let told = format!("stopped after {}, a full run: ", text::hex(&wrong.prefix));
+            assert!(wrong.to_string().starts_with(&told));
+        }
+    }
+
+    #[test]
+    fn stops_start_with_none_of_the_sheets_values() {
+        let mut random = Random::new(3);
+        for profile in PROFILES {
+            for size in 0..=samples::most_lines(profile) {
+                let lines = samples::sheet(&mut random, profile, size);
+                let watch = Watch::unset(&mut random, &Sheet { profile, lines });
+                assert!(!watch.starts_set());
+                assert_eq!(watch.check(&watch.start, true).is_ok(), size == 0);
+            }
+        }
+        let [sheet, _] = one_liners(&mut random);
+        let mut watch = Watch::unset(&mut random, &sheet);
+        let row = rows::find(sheet.profile, sheet.lines[0].command).unwrap();
+        watch.start.values[row][usize::from(sheet.lines[0].zone) - 1] = sheet.lines[0].value;
+        assert!(watch.starts_set());
+    }
+
+    #[test]
+    fn stops_come_with_the_first_sheet_of_one_line() {
+        let first = |profile| {
+            let sheets = sheets(3, ENOUGH);
+            let mut indexed = sheets.iter().enumerate();
+            let found = indexed.find(|(_, sheet)| sheet.profile == profile && sheet.is_one_line());
+            found.map(|(index, _)| index)
+        };
+        assert_eq!(PROFILES.map(first), [Some(28), Some(15)]);
+        let ops = runs(3, 16);
+        let Ok(outcome) = plug(3, 16, &ops, &print(&ops)) else {
+            panic!("a wrong setting");
+        };
+        assert_eq!(outcome.stops(), PLACES);
+        assert!(outcome.missing().contains(&Kind::Stop(Profile::A)));
+        assert!(!outcome.missing().contains(&Kind::Stop(Profile::S)));
     }
 
     #[test]
@@ -682,11 +848,31 @@ mod tests {
             .map(|line| {
                 let printed = print(line);
                 let run = printed_run(printed.trim_end()).unwrap();
-                let run = &run[2..];
+                // An empty sheet has no zero to lose.
+                let run = run.get(1..).unwrap_or_default();
                 format!("bytes {} : {}\n", run.len(), text::hex(run))
             })
             .collect();
         assert!(matches!(plug(3, 40, &ops, &short), Err(Failure::Wrong(_))));
+    }
+
+    #[test]
+    fn zeros_for_an_empty_sheet_break_no_demand() {
+        for profile in PROFILES {
+            let lines = Vec::new();
+            let sheet = Sheet { profile, lines };
+            let run = printed_run(print(&sheet.operation()).trim_end());
+            assert_eq!(run, Some(Vec::new()));
+            // No setting tells them from no bytes; the suite compares the bytes.
+            for run in [vec![], vec![0x00; 255]] {
+                for seed in 0..20 {
+                    let mut outcome = Outcome::default();
+                    let mut random = Random::new(seed);
+                    assert!(scenarios(&mut random, &sheet, &run, &mut outcome).is_ok());
+                    assert_eq!(print(&outcome.ops), outcome.expected);
+                }
+            }
+        }
     }
 
     #[test]

@@ -7,12 +7,12 @@ use crate::rows::{self, Profile, ROWS};
 pub const LINE_LIMIT: usize = 24;
 /// The bytes of a line in a sheet file.
 pub const RECORD: usize = 6;
-/// The zeros that a run begins with.
-pub const RUN_ZEROS: usize = 256;
+/// The zeros before the frames of a run: the 21 behind them falls on the longest old frame's end.
+pub const RUN_ZEROS: usize = 255;
 /// The bytes of a line in a run.
 pub const RUN_FRAME: usize = 6;
 /// The bytes of the longest run that the limit leaves room for.
-pub const LONGEST_RUN: usize = RUN_ZEROS + RUN_FRAME * LINE_LIMIT;
+pub const LONGEST_RUN: usize = run_length(LINE_LIMIT);
 const MARK: [u8; 2] = [0x53, 0x4C];
 
 #[derive(Clone, Copy, PartialEq, Eq, Debug)]
@@ -99,10 +99,21 @@ pub fn records(profile: Profile, lines: &[Line]) -> Vec<u8> {
     file
 }
 
-/// The run of a sheet that is accepted: 256 bytes of 00, then a frame per line.
+/// The bytes of the run of so many lines; an empty sheet has none to set, so nothing is sent.
+pub const fn run_length(lines: usize) -> usize {
+    match lines {
+        0 => 0,
+        _ => RUN_ZEROS + RUN_FRAME * lines,
+    }
+}
+
+/// The run of a sheet that is accepted: 255 bytes of 00, then a frame per line; or no bytes.
 pub fn run(profile: Profile, lines: &[Line]) -> Result<Vec<u8>, Fault> {
     check(profile, lines)?;
-    let mut run = vec![0x00; RUN_ZEROS];
+    let mut run = Vec::with_capacity(run_length(lines.len()));
+    if !lines.is_empty() {
+        run.resize(RUN_ZEROS, 0x00);
+    }
     for line in lines {
         let frame = Frame {
             zone: line.zone,
@@ -286,8 +297,23 @@ mod tests {
         let written = file(Profile::A, &lines).unwrap();
         assert_eq!(read_file(Profile::A, &written), Ok(lines.to_vec()));
         let run = run(Profile::A, &lines).unwrap();
-        assert_eq!(run.len(), 256 + 12);
-        assert_eq!(run[256..262], [0x21, 1, 0x3A, 1, 0x85, 0x0D]);
+        assert_eq!(run.len(), 255 + 12);
+        assert_eq!(run[..255], [0x00; 255]);
+        assert_eq!(run[255..261], [0x21, 1, 0x3A, 1, 0x85, 0x0D]);
+        assert_eq!(run[261..], [0x21, 2, 0x39, 1, 0xFF, 0x0D]);
+    }
+
+    #[test]
+    fn a_run_has_its_length_and_an_empty_sheet_has_no_bytes() {
+        for (profile, most) in [(Profile::A, 15), (Profile::S, 8)] {
+            assert_eq!(run(profile, &[]), Ok(vec![]));
+            assert_eq!(read_file(profile, &[]), Ok(vec![]));
+            for count in 0..=most {
+                let run = run(profile, &repeated(profile, count)).unwrap();
+                assert_eq!(run.len(), run_length(count));
+            }
+        }
+        assert_eq!([0, 1, 2, 15].map(run_length), [0, 261, 267, 345]);
     }
 
     #[test]
@@ -298,14 +324,14 @@ mod tests {
             assert_eq!(written.len(), bytes);
             assert_eq!(read_file(profile, &written), Ok(lines.clone()));
             let run = run(profile, &lines).unwrap();
-            assert_eq!(run.len(), 256 + bytes);
+            assert_eq!(run.len(), 255 + bytes);
             assert!(run.len() <= LONGEST_RUN);
-            assert!(run[..256].iter().all(|&byte| byte == 0x00));
-            for (frame, line) in run[256..].chunks(6).zip(&lines) {
+            assert!(run[..255].iter().all(|&byte| byte == 0x00));
+            for (frame, line) in run[255..].chunks(6).zip(&lines) {
                 let expected = [0x21, line.zone, line.command, 1, line.value, 0x0D];
                 assert_eq!(frame, expected);
             }
         }
-        assert_eq!(LONGEST_RUN, 256 + 144);
+        assert_eq!(LONGEST_RUN, 255 + 144);
     }
 }

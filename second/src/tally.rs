@@ -26,8 +26,14 @@ pub enum Kind {
     LongSheet(u8),
     /// A sheet of that many lines.
     SheetOf(usize),
+    /// The run of an empty sheet that was accepted, and so is of no bytes.
+    EmptyRun,
+    /// The run of an empty sheet that was refused with 9, as its place was past the end.
+    EmptyRunPastEnd,
     /// A full sheet whose sending was cut in its last frame.
     LastFrameCut(Profile),
+    /// A sheet of one line that was sent to a reader stopped at one of its places.
+    Stop(Profile),
     Word(&'static str),
 }
 
@@ -56,6 +62,7 @@ impl Kind {
         kinds.extend(PROFILES.map(Kind::FullSheet));
         kinds.extend(LONG_REFUSALS.map(Kind::LongSheet));
         kinds.extend(SIZES.map(Kind::SheetOf));
+        kinds.extend([Kind::EmptyRun, Kind::EmptyRunPastEnd]);
         kinds.extend(words.iter().copied().map(Kind::Word));
         kinds
     }
@@ -100,9 +107,15 @@ impl fmt::Display for Kind {
                 write!(out, "sheet of {first} to {last} lines, refused {number}")
             }
             Kind::SheetOf(size) => write!(out, "sheet of {size} lines"),
+            Kind::EmptyRun => write!(out, "run of no bytes"),
+            Kind::EmptyRunPastEnd => write!(out, "run of no bytes past the end, refused 9"),
             Kind::LastFrameCut(profile) => {
                 let letter = profile.letter() as char;
                 write!(out, "full sheet {letter}, cut in its last frame")
+            }
+            Kind::Stop(profile) => {
+                let letter = profile.letter() as char;
+                write!(out, "sheet of one line {letter}, sent to a stopped reader")
             }
             Kind::Word(word) => write!(out, "operation {word}"),
         }

@@ -181,6 +181,8 @@ fn step(row: &Row, value: u8, by: i16) -> u8 {
 #[cfg(test)]
 mod tests {
     use super::*;
+    use crate::frame::{DATA_LIMIT, END};
+    use crate::sheet::{self, Line};
     use crate::text;
 
     fn unit(profile: Profile) -> Unit {
@@ -196,6 +198,116 @@ mod tests {
             answers.extend(unit.take(byte).unwrap_or_default());
         }
         text::hex(&answers)
+    }
+
+    /// Takes a byte; gives what the reader said of it, and the answer.
+    fn fed(unit: &mut Unit, byte: u8) -> (Step, Option<Vec<u8>>) {
+        (unit.reader.clone().take(byte), unit.take(byte))
+    }
+
+    /// A sheet's one line: Dolby Volume 01 in zone 1.
+    const DOLBY_ON: Line = Line {
+        zone: 1,
+        command: 0x38,
+        value: 0x01,
+    };
+
+    /// A unit at legal settings that has just read Dl FF; nothing waits longer.
+    fn longest_wait() -> Unit {
+        for row in samples::rows_of(Profile::A) {
+            assert!(row.has_answer(0x00), "{}", row.name);
+        }
+        let mut unit = Unit::new(Profile::A, Settings::zeros());
+        for byte in [0x21, 0x01, 0x38, 0xFF] {
+            assert_eq!(fed(&mut unit, byte), (Step::Waiting, None));
+        }
+        unit
+    }
+
+    #[test]
+    fn zeros_254_do_not_suffice() {
+        assert_eq!(sheet::check(Profile::A, &[DOLBY_ON]), Ok(()));
+        let mut unit = longest_wait();
+        for _ in 0..254 {
+            assert_eq!(fed(&mut unit, 0x00), (Step::Waiting, None));
+        }
+        // The line's 21 is the old frame's last data, and its zone is on the end place.
+        assert_eq!(fed(&mut unit, 0x21), (Step::Waiting, None));
+        assert_eq!(fed(&mut unit, 0x01), (Step::Broken(260), None));
+        for byte in [0x38, 0x01, 0x01, 0x0D] {
+            assert_eq!(fed(&mut unit, byte), (Step::Noise, None));
+        }
+        let row = rows::find(Profile::A, 0x38).unwrap();
+        assert_eq!(unit.settings.values[row][0], 0x00);
+        assert_eq!(unit.settings, Settings::zeros());
+    }
+
+    #[test]
+    fn zeros_255_suffice() {
+        let run = sheet::run(Profile::A, &[DOLBY_ON]).unwrap();
+        let frame = [0x21, 0x01, 0x38, 0x01, 0x01, 0x0D];
+        assert_eq!(run, [vec![0x00; 255], frame.to_vec()].concat());
+        let mut unit = longest_wait();
+        for _ in 0..255 {
+            assert_eq!(fed(&mut unit, 0x00), (Step::Waiting, None));
+        }
+        // The line's 21 is on the end place: it breaks the old frame and opens its own.
+        assert_eq!(fed(&mut unit, 0x21), (Step::Broken(259), None));
+        for byte in [0x01, 0x38, 0x01, 0x01] {
+            assert_eq!(fed(&mut unit, byte), (Step::Waiting, None));
+            assert_eq!(unit.settings, Settings::zeros());
+        }
+        let answer = vec![0x21, 0x01, 0x38, 0x00, 0x01, 0x01, 0x0D];
+        assert_eq!(fed(&mut unit, 0x0D), (Step::Frame(6), Some(answer)));
+        let mut settings = Settings::zeros();
+        settings.values[rows::find(Profile::A, 0x38).unwrap()][0] = 0x01;
+        assert_eq!(unit.settings, settings);
+    }
+
+    /// Sends zeros and a line's frame from every place; gives Dl and the bytes taken where it fails.
+    fn failures(profile: Profile, line: Line, zeros: usize) -> Vec<(usize, usize)> {
+        let frame = [OPENING, line.zone, line.command, 0x01, line.value, END];
+        let answer = samples::answer(line.zone, line.command, line.value);
+        let sent = [vec![0x00; zeros], frame.to_vec()].concat();
+        let mut wanted = Settings::zeros();
+        let row = rows::find(profile, line.command).unwrap();
+        wanted.values[row][usize::from(line.zone) - 1] = line.value;
+        let mut failures = Vec::new();
+        for data_length in 0..=DATA_LIMIT {
+            let mut old = vec![OPENING, line.zone, line.command, data_length as u8];
+            old.extend([END, OPENING].iter().cycle().take(data_length));
+            let mut stopped = Unit::new(profile, Settings::zeros());
+            for taken in 0..=old.len() {
+                let mut unit = stopped.clone();
+                let answers: Vec<_> = sent.iter().filter_map(|&byte| unit.take(byte)).collect();
+                if answers.is_empty() {
+                    assert_eq!(unit.settings, Settings::zeros());
+                    failures.push((data_length, taken));
+                } else {
+                    // No other frame was completed, and not the old one.
+                    assert_eq!(answers, [answer.as_slice()]);
+                    assert_eq!(unit.settings, wanted);
+                }
+                if let Some(&byte) = old.get(taken) {
+                    assert_eq!(stopped.take(byte), None);
+                }
+            }
+        }
+        failures
+    }
+
+    #[test]
+    fn zeros_254_fail_only_where_dl_ff_was_just_read() {
+        let volume = Line {
+            zone: 2,
+            command: 0x0D,
+            value: 0x0D,
+        };
+        for (profile, line) in [(Profile::A, DOLBY_ON), (Profile::S, volume)] {
+            assert_eq!(sheet::check(profile, &[line]), Ok(()));
+            assert_eq!(failures(profile, line, 255), []);
+            assert_eq!(failures(profile, line, 254), [(255, 4)]);
+        }
     }
 
     #[test]

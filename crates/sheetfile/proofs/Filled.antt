@@ -1,9 +1,12 @@
 -- A tail that is filled from its head: what stands in it, and the rest as it was.
 use mathlib.Core.Path.{_≡_, refl, ap, sym, _∙_}
+use mathlib.Core.Bool.{Bool, true, false}
 use mathlib.Core.List.{List, [], _∷_, _++_, append-assoc, append-nil}
 use Prim.Native.Nat.{ℕ, zero, suc, _+_, _-_, _*_, _≤_, _<_}
 use native.Mathlib.Numerals.{add-one}
 use native.Mathlib.Omega.{arith}
+use borrow.Author.Tests.{ne-eqb}
+use lib.Dec.{eqb}
 use lib.ListN.{length, take, drop, getD, set, replicate, length-append, length-replicate}
 use lib.Seq.{take-suc, take-at, drop-at, drop-cons, drop-drop, set-at}
 use Rattle.frame.specs.Frame.{frameOf}
@@ -14,8 +17,8 @@ use Rattle.sheet.specs.Sheet.{noLine}
 use Rattle.lists.specs.InOrder.{inOrder}
 use Rattle.lists.proofs.InOrder.{in-order-append}
 use Rattle.sheetfile.specs.File.{recordSize}
-use Rattle.sheetfile.specs.Run.{flush}
-use Rattle.sheetfile.specs.Computed.{zerosOf, bytesOf, sheetBytes}
+use Rattle.sheetfile.specs.Run.{flush, runOf}
+use Rattle.sheetfile.specs.Computed.{flushOf, zerosOf, bytesOf, sheetBytes}
 use Rattle.sheet.specs.declared.line.Line.{Line}
 use Rattle.sheetfile.specs.declared.write.Form.{Form}
 use Rattle.sheetfile.specs.declared.write.Form.the-variants as form
@@ -65,15 +68,30 @@ unfolding frameOf
 bytes-six form.File profile l = refl
 bytes-six form.Run profile l = refl
 
-pub sheet-length : (f : Form) (profile : Profile) (ls : List Line) → length (sheetBytes f profile ls) ≡ zerosOf f + length ls * recordSize
+-- what a sheet is written as: its zeros, and its lines in order
+pub flush-some : (n : ℕ) → (n ≡ 0 → ⊥) → flushOf n ≡ flush
+flush-some n some = rw (ne-eqb n 0 some)
+
+pub sheet-bytes : (f : Form) (profile : Profile) (ls : List Line) → sheetBytes f profile ls ≡ replicate (zerosOf f (length ls)) 0 ++ inOrder (bytesOf f profile) ls
+unfolding runOf inOrder
+sheet-bytes form.File profile ls = refl
+sheet-bytes form.Run profile [] = refl
+sheet-bytes form.Run profile (l ∷ ls) = rw (flush-some (length (l ∷ ls)) (λ e. omega arith))
+
+pub sheet-length : (f : Form) (profile : Profile) (ls : List Line) → length (sheetBytes f profile ls) ≡ zerosOf f (length ls) + length ls * recordSize
 sheet-length f profile ls =
     omega (
       arith,
-      length-append (replicate (zerosOf f) 0) (inOrder (bytesOf f profile) ls),
-      length-replicate {A = ℕ} (zerosOf f) 0,
+      ap (length {A = ℕ}) (sheet-bytes f profile ls),
+      length-append (replicate (zerosOf f (length ls)) 0) (inOrder (bytesOf f profile) ls),
+      length-replicate {A = ℕ} (zerosOf f (length ls)) 0,
       in-order-length (bytesOf f profile) (bytes-six f profile) ls,
     )
 
-pub zeros-most : (f : Form) → zerosOf f ≤ flush
-zeros-most form.File = omega arith
-zeros-most form.Run = omega arith
+pub zeros-most : (f : Form) (n : ℕ) → zerosOf f n ≤ flush
+zeros-most form.File n = omega arith
+zeros-most form.Run n = go (eqb n 0) refl
+  where
+    go : (t : Bool) → eqb n 0 ≡ t → flushOf n ≤ flush
+    go true e = rw e (omega arith)
+    go false e = rw e (omega arith)

@@ -10,7 +10,6 @@ use Rattle.row.specs.declared.profile.NamedProfile.the-variants as named
 use Rattle.sheet.specs.Sheet.{noLines, withAll, linesOf}
 use Rattle.sheet.specs.Check.{sheetVerdict}
 use Rattle.sheetfile.specs.File.{records, linesIn, fileOf, fileVerdict, readBy, fileRead, fileReadBy}
-use Rattle.sheetfile.specs.Run.{runOf}
 use Rattle.sheetfile.specs.Written.{sheetAnswered, sheetLeft, fileAnswered, fileLeft, runAnswered, runLeft}
 use Rattle.sheetfile.specs.Computed.{sheetBytes, fileAs}
 use Rattle.sheetfile.specs.declared.write.Form.{Form}
@@ -78,14 +77,12 @@ module _ (profile : Profile) (file : List ℕ) (buf : List ℕ) (at : ℕ) where
   pub as-answer : (f : Form) → fileRead profile file .verdict ≡ verdict.Accepted
       → sheetAnswered (sheetVerdict profile (linesOf (fileRead profile file .sheet))) buf at (sheetBytes f profile (linesOf (fileRead profile file .sheet)))
       ≡ sheetAnswered (fileVerdict profile file) buf at (fileAs f file)
-  unfolding runOf
   as-answer form.File e = copied-answer e
   as-answer form.Run e = ran-answer e
 
   pub as-left : (f : Form) → fileRead profile file .verdict ≡ verdict.Accepted
       → sheetLeft (sheetVerdict profile (linesOf (fileRead profile file .sheet))) buf at (sheetBytes f profile (linesOf (fileRead profile file .sheet)))
       ≡ sheetLeft (fileVerdict profile file) buf at (fileAs f file)
-  unfolding runOf
   as-left form.File e = copied-left e
   as-left form.Run e = ran-left e
 

@@ -1,7 +1,7 @@
 -- What writing a sheet leaves: the bytes in their place and every other as it was, or the buffer as it was.
 use mathlib.Core.Path.{_≡_, refl, ap, _∙_}
 use mathlib.Core.List.{List, []}
-use Prim.Native.Nat.{ℕ, _+_, _*_, _≤_}
+use Prim.Native.Nat.{ℕ, _+_, _*_, _≤_, _<_}
 use native.Mathlib.Omega.{arith}
 use lib.ListN.{length, take, drop}
 use Rattle.lent.specs.Written.{writeAnswered, writtenCount}
@@ -10,7 +10,7 @@ use Rattle.lent.specs.declared.written.Written.{Written}
 use Rattle.lent.specs.declared.written.Written.the-variants as written
 use Rattle.lent.proofs.Writes.{write-promise}
 use Rattle.row.specs.declared.profile.Profile.{Profile}
-use Rattle.sheet.specs.Sheet.{linesOf}
+use Rattle.sheet.specs.Sheet.{sheetLimit, linesOf}
 use Rattle.sheet.specs.Check.{sheetVerdict}
 use Rattle.sheetfile.specs.File.{recordSize, fileOf, fileRead}
 use Rattle.sheetfile.specs.Run.{flush, runOf}
@@ -22,7 +22,7 @@ use Rattle.sheet.specs.declared.check.Verdict.the-variants as verdict
 use Rattle.sheetfile.specs.declared.write.Form.the-variants as form
 use Rattle.sheetfile.specs.declared.write.SheetWritten.the-variants.{Bytes, Refused}
 use Rattle.sheet.proofs.Sheets.{sheet-promise}
-use Rattle.sheetfile.proofs.Filled.{sheet-length}
+use Rattle.sheetfile.proofs.Filled.{flush-some, sheet-length, zeros-most}
 use Rattle.sheetfile.proofs.Trips.{trip-read}
 
 as-count : (w : Written) → sheetWrittenCount (asSheet w) ≡ writtenCount w
@@ -86,9 +86,15 @@ module _ (buf : List ℕ) (at : ℕ) (bytes : List ℕ) where
     after = after v;
   }
 
-run-length : (profile : Profile) (ls : List Line) → length (runOf ls) ≡ flush + recordSize * length ls
+run-length : (profile : Profile) (ls : List Line) → 0 < length ls → length (runOf ls) ≡ flush + recordSize * length ls
+run-length profile ls some = omega (arith, sheet-length form.Run profile ls, flush-some (length ls) (λ e. omega arith))
+
+run-room : (profile : Profile) (ls : List Line) → sheetVerdict profile ls ≡ verdict.Accepted → length (runOf ls) ≤ flush + recordSize * sheetLimit
+run-room profile ls e = omega (arith, sheet-length form.Run profile ls, zeros-most form.Run (length ls), sheet-promise profile ls .only e .0)
+
+empty-run : runOf [] ≡ []
 unfolding runOf
-run-length profile ls = omega (arith, sheet-length form.Run profile ls)
+empty-run = refl
 
 file-length : (profile : Profile) (ls : List Line) → length (fileOf profile ls) ≡ recordSize * length ls
 file-length profile ls = omega (arith, sheet-length form.File profile ls)
@@ -96,7 +102,8 @@ file-length profile ls = omega (arith, sheet-length form.File profile ls)
 pub size-promise : (profile : Profile) (ls : List Line) → SizePromise profile ls
 size-promise profile ls = record {
   run = run-length profile ls;
-  room = λ e. omega (arith, run-length profile ls, sheet-promise profile ls .only e .0);
+  empty = empty-run;
+  room = run-room profile ls;
   file = file-length profile ls;
   back = λ buf at e h.
       let w = trip-read profile ls e in (

@@ -1,10 +1,11 @@
 -- What the private functions compute. Nothing here need be believed: proofs/ ties each form to the definitions.
 use Prim.Native.Nat.{ℕ, _+_}
-use mathlib.Core.List.{List, _++_}
-use lib.ListN.{getD, replicate}
+use mathlib.Core.Bool.{cond}
+use mathlib.Core.List.{List}
+use lib.Dec.{eqb}
+use lib.ListN.{getD}
 use Rattle.row.specs.declared.profile.Profile.{Profile}
-use Rattle.lists.specs.InOrder.{inOrder}
-use Rattle.sheetfile.specs.File.{Record, recordOf, records, linesIn}
+use Rattle.sheetfile.specs.File.{Record, recordOf, records, fileOf, linesIn}
 use Rattle.sheetfile.specs.Run.{flush, lineFrame, runOf}
 use Rattle.sheet.specs.declared.line.Line.{Line}
 use Rattle.sheetfile.specs.declared.write.Form.{Form}
@@ -21,17 +22,22 @@ recordAt file at = record {
   value = getD file (at + 5) 0;
 }
 
--- a file or a run: the zeros before the lines, and the bytes of a line
-abbrev pub zerosOf : Form → ℕ
-zerosOf form.File = 0
-zerosOf form.Run = flush
+-- a file or a run: the zeros before so many lines, and the bytes of a line
+abbrev pub flushOf : ℕ → ℕ
+flushOf count = cond (eqb count 0) 0 flush
+
+abbrev pub zerosOf : Form → ℕ → ℕ
+zerosOf form.File count = 0
+zerosOf form.Run count = flushOf count
 
 abbrev pub bytesOf : Form → Profile → Line → List ℕ
 bytesOf form.File profile l = recordOf profile l
 bytesOf form.Run profile l = lineFrame l
 
+-- what a sheet is written as
 abbrev pub sheetBytes : Form → Profile → List Line → List ℕ
-sheetBytes f profile ls = replicate (zerosOf f) 0 ++ inOrder (bytesOf f profile) ls
+sheetBytes form.File profile ls = fileOf profile ls
+sheetBytes form.Run profile ls = runOf ls
 
 -- what an accepted file is written as: itself, or the run of its lines
 abbrev pub fileAs : Form → List ℕ → List ℕ

@@ -1,7 +1,7 @@
 -- Promise: writing a sheet file or a run puts all of its bytes into their place and changes no other, or refuses and changes
 -- nothing: "the sheet's checks first, then 9". Of a refusal every field but its number and place is zero.
 use mathlib.Core.Path.{_≡_}
-use mathlib.Core.List.{List}
+use mathlib.Core.List.{List, []}
 use Prim.Native.Nat.{ℕ, _+_, _*_, _≤_, _<_}
 use lib.ListN.{length, take, drop}
 use Rattle.row.specs.declared.profile.Profile.{Profile}
@@ -28,10 +28,11 @@ pub record WrittenPromise (v : Verdict) (buf : List ℕ) (at : ℕ) (bytes : Lis
   pub before : take at (sheetLeft v buf at bytes) ≡ take at buf
   pub after : drop (at + length bytes) (sheetLeft v buf at bytes) ≡ drop (at + length bytes) buf
 
--- "256 + 6n bytes", so there is one room for any accepted sheet's run; a file has six bytes a line, and one that was written reads back
--- from its place in the buffer
+-- "255 zeros for a sheet with at least one line, none for an empty sheet", and six bytes a line, so that one buffer has room for any
+-- accepted sheet's run; a file has six bytes a line, and one that was written reads back from its place in the buffer
 pub record SizePromise (profile : Profile) (ls : List Line) : Type 0 where
-  pub run : length (runOf ls) ≡ flush + recordSize * length ls
+  pub run : 0 < length ls → length (runOf ls) ≡ flush + recordSize * length ls
+  pub empty : runOf [] ≡ []
   pub room : sheetVerdict profile ls ≡ verdict.Accepted → length (runOf ls) ≤ flush + recordSize * sheetLimit
   pub file : length (fileOf profile ls) ≡ recordSize * length ls
   pub back : (buf : List ℕ) (at : ℕ) → sheetVerdict profile ls ≡ verdict.Accepted → at + recordSize * length ls ≤ length buf

@@ -19,11 +19,11 @@ ghost use Rattle.sheetfile.specs.File.{recordSize, recordOf};
 ghost use Rattle.sheetfile.specs.Run.{lineFrame};
 ghost use Rattle.sheet.specs.Check.{sheetVerdict};
 ghost use Rattle.sheetfile.specs.Written.{sheetAnswered, sheetLeft, fileAnswered, fileLeft, runAnswered, runLeft};
-ghost use Rattle.sheetfile.specs.Computed.{zerosOf, bytesOf, sheetBytes};
+ghost use Rattle.sheetfile.specs.Computed.{flushOf, zerosOf, bytesOf, sheetBytes};
 ghost use Rattle.sheet.specs.declared.check.Verdict.the-variants as verdict;
 
-// The zeros that a run begins with.
-pub const FLUSH: usize = 256;
+// The zeros that a run begins with, unless the sheet is empty.
+pub const FLUSH: usize = 255;
 
 // Room for any run: the zeros, and a frame for each line up to the limit; a frame has as many bytes as a record.
 pub const RUN_ROOM: usize = FLUSH + SHEET_LIMIT * RECORD;
@@ -89,7 +89,7 @@ fn put_accepted(
     ensures answers { λ r. ⌜ r ≡ sheetAnswered verdict.Accepted (now (buf .entry)) at (sheetBytes form profile (firstLines lines count)) ⌝ }
     ensures leaves { λ _. ⌜ now (buf .exit) ≡ sheetLeft verdict.Accepted (now (buf .entry)) at (sheetBytes form profile (firstLines lines count)) ⌝ }
 {
-    let length = zeros_of(form) + count * RECORD;
+    let length = zeros_of(form, count) + count * RECORD;
     if lacks_room(buf.len(), at, length) {
         return SheetWritten::Refused(9, 0);
     }
@@ -97,14 +97,24 @@ fn put_accepted(
     SheetWritten::Bytes(length)
 }
 
-// How many zeros stand before the lines.
-fn zeros_of(form: Form) -> usize
-    ensures { λ r. ⌜ r ≡ zerosOf form ⌝ }
+// How many zeros stand before so many lines.
+fn zeros_of(form: Form, count: usize) -> usize
+    ensures { λ r. ⌜ r ≡ zerosOf form count ⌝ }
 {
     match form {
         Form::File => 0,
-        Form::Run => FLUSH,
+        Form::Run => flush_of(count),
     }
+}
+
+// How many zeros stand before so many frames: none before none.
+fn flush_of(count: usize) -> usize
+    ensures { λ r. ⌜ r ≡ flushOf count ⌝ }
+{
+    if count == 0 {
+        return 0;
+    }
+    FLUSH
 }
 
 // The zeros, and then the lines in their own tail.
@@ -115,10 +125,10 @@ fn put_bytes(
     lines: [Line; SHEET_LIMIT],
     count: usize,
 )
-    requires { ⌜ (count ≤ sheetLimit) × (zerosOf form + count * recordSize ≤ length (now tail)) ⌝ }
-    ensures { λ _. ⌜ now (tail .exit) ≡ sheetBytes form profile (take count lines) ++ drop (zerosOf form + count * recordSize) (now (tail .entry)) ⌝ }
+    requires { ⌜ (count ≤ sheetLimit) × (zerosOf form count + count * recordSize ≤ length (now tail)) ⌝ }
+    ensures { λ _. ⌜ now (tail .exit) ≡ sheetBytes form profile (take count lines) ++ drop (zerosOf form count + count * recordSize) (now (tail .entry)) ⌝ }
 {
-    let zeros = zeros_of(form);
+    let zeros = zeros_of(form, count);
     put_zeros(tail, zeros);
     put_lines(&mut tail[zeros..], form, profile, lines, count);
 }

@@ -113,13 +113,13 @@ zeros-near zero k u w = near-more (0 + k) k (u .taken) (omega arith) w
 zeros-near (suc n) k u w =
     zeros-near n k (takes u 0) (zero-nearer Command (u .taken) (n + k) (near-more (suc n + k) (suc (n + k)) (u .taken) (omega arith) w))
 
--- the sendings end with the answers to the sheet's lines
+-- what is sent ends with the answers to some lines
+abbrev Ends : List Line → Unit → List ℕ → Type 0
+Ends ls u sent = (earlier : List BroughtAnswer) × (broughtBy (replies u sent) ≡ earlier ++ answersOf ls)
+
 module _ (profile : Profile) (start want : Settings) (zeros : ℕ) (enough : 255 ≤ zeros) (ls : List Line) (w : Each (Wanted profile start want) ls)
     (legal : Each (λ (l : Line). isLegal profile l ≡ true) ls) where
-  abbrev Ends : Unit → List ℕ → Type 0
-  Ends u sent = (earlier : List BroughtAnswer) × (broughtBy (replies u sent) ≡ earlier ++ answersOf ls)
-
-  one-sending : (u : Unit) → Good profile start want u → Ends u (sending zeros ls)
+  one-sending : (u : Unit) → Good profile start want u → Ends ls u (sending zeros ls)
   one-sending u g =
       let flushed : Unit = after u (replicate zeros 0) in
       let near : Within Command 1 (flushed .taken) = zeros-near zeros 1 u (near-more 256 (zeros + 1) (u .taken) (omega arith) (g .near)) in
@@ -130,7 +130,7 @@ module _ (profile : Profile) (start want : Settings) (zeros : ℕ) (enough : 255
             ∙ ap (λ (xs : List BroughtAnswer). broughtBy (replies u (replicate zeros 0)) ++ xs) (frames-answered ls flushed (rw family legal) near),
       )
 
-  all-sendings : (cuts : List ℕ) (u : Unit) → Good profile start want u → Ends u (sendings cuts (sending zeros ls))
+  all-sendings : (cuts : List ℕ) (u : Unit) → Good profile start want u → Ends ls u (sendings cuts (sending zeros ls))
   all-sendings [] u g = one-sending u g
   all-sendings (cut ∷ cuts) u g =
       let part = take cut (sending zeros ls) in
@@ -143,6 +143,13 @@ module _ (profile : Profile) (start want : Settings) (zeros : ℕ) (enough : 255
             ∙ ap (λ (xs : List BroughtAnswer). broughtBy (replies u part) ++ xs) (more .1)
             ∙ sym (append-assoc (broughtBy (replies u part)) (more .0) (answersOf ls)),
       )
+
+-- the run is such a sending, where there are lines
+all-runs : (profile : Profile) (start want : Settings) (ls : List Line) → Each (Wanted profile start want) ls → Each (λ (l : Line). isLegal profile l ≡ true) ls
+    → (cuts : List ℕ) (u : Unit) → Good profile start want u → Ends ls u (sendings cuts (runOf ls))
+unfolding runOf
+all-runs profile start want [] w legal cuts u g = (broughtBy (replies u (sendings cuts [])), sym (append-nil (broughtBy (replies u (sendings cuts [])))))
+all-runs profile start want (l ∷ ls) w legal cuts u g = all-sendings profile start want flush (omega arith) (l ∷ ls) w legal cuts u g
 
 -- none of some answers is a status of a zone and command
 abbrev NoneIs : Profile → ℕ → ℕ → List BroughtAnswer → Type 0
@@ -219,15 +226,14 @@ module _ (t : Tracker) (now : Unit) (family : t .profile ≡ now .profile) (true
 signs-full : (profile : Profile) (s : Settings) (before : List ℕ) (sheet : List Line) (cuts : List ℕ)
     → LegalSettings profile s → AreBytes before → sheetVerdict profile sheet ≡ verdict.Accepted
     → signOff (trackedBy profile (replies (stopped profile s before) (sendings cuts (runOf sheet)))) sheet ≡ Yes
-unfolding runOf
 signs-full profile s before sheet cuts legal bytes accepted =
     let f = fit profile [] sheet (sheet-promise profile sheet .only accepted .1) in
     let u = stopped profile s before in
     let want = wanted sheet s in
-    let sent = sendings cuts (sending flush sheet) in
+    let sent = sendings cuts (runOf sheet) in
     let good = start-good flush (omega arith) profile s before sheet cuts bytes (f .legal) (f .apart) in
     let w = lines flush (omega arith) profile s before sheet cuts bytes (f .legal) (f .apart) in
-    let ends = all-sendings profile s want flush (omega arith) sheet w (f .legal) cuts u good in
+    let ends = all-runs profile s want sheet w (f .legal) cuts u good in
     let t = trackedBy profile (replies u sent) in
     let known = subst (λ (fs : List BroughtAnswer). Each (λ (l : Line). (b : ℕ) × (keptIn (answersFed (freshTracker profile) fs) (l .zone) (l .command) ≡ Value b)) sheet) (sym (ends .1)) (all-known profile s legal (ends .0) sheet (f .legal)) in
     let full = demand-3 .holds profile s before sheet cuts bytes accepted .full in

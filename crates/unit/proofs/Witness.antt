@@ -69,9 +69,9 @@ start = stopped A zeroSettings before
 pub differs : map (λ (l : Line). eqb (zeroSettings (settingOf l)) (l .value)) fifteen ≡ replicate 15 false
 differs = refl
 
--- the plug pulled after 277 bytes, inside the fourth frame; after 343, inside the fifteenth and last; inside the flush; then a full run
+-- the plug pulled after 276 bytes, inside the fourth frame; after 342, inside the fifteenth and last; inside the flush; then a full run
 abbrev cuts : List ℕ
-cuts = 277 ∷ 343 ∷ 100 ∷ []
+cuts = 276 ∷ 342 ∷ 100 ∷ []
 
 abbrev sent : List ℕ
 sent = sendings cuts (runOf fifteen)
@@ -82,25 +82,25 @@ applied =
     (omega arith, (omega arith, (omega arith, (omega arith, (omega arith, tt))))) fifteen-accepted
 
 -- what it says, computed beside it: at the first cut three lines are set and the reader stands inside the fourth's frame
-pub pulled : map (λ (l : Line). moment start sent 277 .settings (settingOf l)) fifteen ≡ 0x02 ∷ 0x01 ∷ 0x02 ∷ replicate 12 0x00
+pub pulled : map (λ (l : Line). moment start sent 276 .settings (settingOf l)) fifteen ≡ 0x02 ∷ 0x01 ∷ 0x02 ∷ replicate 12 0x00
 unfolding runOf inOrder readerBy frameDone frameOf answerTo takenAfter readOf contentOf firstRow table numberOf codeOf plainCodeOf
 pulled = refl
 
-pub pulled-inside : moment start sent 277 .taken ≡ 0x21 ∷ 0x01 ∷ 0x39 ∷ []
+pub pulled-inside : moment start sent 276 .taken ≡ 0x21 ∷ 0x01 ∷ 0x39 ∷ []
 unfolding runOf inOrder readerBy frameDone frameOf answerTo takenAfter readOf contentOf firstRow table numberOf codeOf plainCodeOf
 pulled-inside = refl
 
 -- at the second all but the last, and the reader stands inside the last frame
-pub pulled-last : map (λ (l : Line). moment start sent 620 .settings (settingOf l)) fifteen ≡ take 14 (map (λ (l : Line). l .value) fifteen) ++ 0x00 ∷ []
+pub pulled-last : map (λ (l : Line). moment start sent 618 .settings (settingOf l)) fifteen ≡ take 14 (map (λ (l : Line). l .value) fifteen) ++ 0x00 ∷ []
 unfolding runOf inOrder readerBy frameDone frameOf answerTo takenAfter readOf contentOf firstRow table numberOf codeOf plainCodeOf
 pulled-last = refl
 
-pub pulled-inside-last : moment start sent 620 .taken ≡ 0x21 ∷ 0x03 ∷ 0x46 ∷ []
+pub pulled-inside-last : moment start sent 618 .taken ≡ 0x21 ∷ 0x03 ∷ 0x46 ∷ []
 unfolding runOf inOrder readerBy frameDone frameOf answerTo takenAfter readOf contentOf firstRow table numberOf codeOf plainCodeOf
 pulled-inside-last = refl
 
 -- the third sending, cut inside its flush, has added nothing; at the end all are set
-pub pulled-again : map (λ (l : Line). moment start sent 720 .settings (settingOf l)) fifteen ≡ take 14 (map (λ (l : Line). l .value) fifteen) ++ 0x00 ∷ []
+pub pulled-again : map (λ (l : Line). moment start sent 718 .settings (settingOf l)) fifteen ≡ take 14 (map (λ (l : Line). l .value) fifteen) ++ 0x00 ∷ []
 unfolding runOf inOrder readerBy frameDone frameOf answerTo takenAfter readOf contentOf firstRow table numberOf codeOf plainCodeOf
 pulled-again = refl
 

@@ -26,7 +26,7 @@ abbrev pub Apart : List Line → Type 0
 Apart [] = Unit {0}
 Apart (l ∷ ls) = Each (λ (k : Line). sameCell l k ≡ false) ls × Apart ls
 
--- zeros, then the lines' frames; document 01's run has 256
+-- so many zeros, then the lines' frames; the run of a sheet with at least one line is such a sending, of 255
 abbrev pub sending : ℕ → List Line → List ℕ
 sending zeros ls = replicate zeros 0 ++ framesOf ls
 

@@ -4,7 +4,7 @@ use super::Cases;
 use crate::frame::Direction;
 use crate::rows::{Profile, Row, MINUS_ZERO, ROWS};
 use crate::samples::{self, PROFILES};
-use crate::sheet::{self, Line, LINE_LIMIT, RECORD, RUN_FRAME, RUN_ZEROS};
+use crate::sheet::{self, Line, LINE_LIMIT, RECORD};
 
 /// The least count that one byte cannot hold.
 const OVER_A_BYTE: usize = 256;
@@ -202,8 +202,29 @@ impl Cases {
         self.add("check", &[p, file]);
         let (length, place) = self.buffer(file.len());
         self.add("copy", &[p, &length, &place, file]);
-        let (length, place) = self.buffer(RUN_ZEROS + RUN_FRAME * (file.len() / RECORD));
+        let (length, place) = self.buffer(sheet::run_length(file.len() / RECORD));
         self.add("run", &[p, &length, &place, file]);
+    }
+
+    /// Empty sheets of both profiles, to all that sheets go to.
+    pub(super) fn empty_sheet_case(&mut self) {
+        for profile in PROFILES {
+            let p = [profile.letter()];
+            let length = *self.random.pick(&[0, 1, 2, 7, 254, 255, 256]);
+            let inside = self.random.between(0, length as usize) as u64;
+            let past = length + self.random.between(2, 300) as u64;
+            // Nothing is written, and only a place past the end is 9.
+            for place in [inside, length, length + 1, past] {
+                let (length, place) = (self.number(length), self.number(place));
+                self.add("copy", &[&p, &length, &place, &[]]);
+                self.add("run", &[&p, &length, &place, &[]]);
+            }
+            let p = self.told(profile);
+            self.sheet_file(&p, &[]);
+            let length = self.random.between(0, 40);
+            let capture = samples::capture(&mut self.random, profile, Direction::Answer, length);
+            self.add("sign", &[&p, &[], &capture]);
+        }
     }
 
     /// Full sheets and longer ones of both profiles, within the limit and over it.

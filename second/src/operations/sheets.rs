@@ -68,6 +68,20 @@ pub(super) fn sheet_bytes(
     reply
 }
 
+/// Reads a sheet file and writes its run; what becomes of an empty sheet's is counted.
+pub(super) fn run(p: u8, length: usize, place: u64, file: &[u8], tally: &mut Tally) -> Reply {
+    let reply = sheet_bytes(p, length, place, file, sheet::run, tally);
+    match &reply.answer {
+        Ok(answer) if answer == "bytes 0" => tally.count(Kind::EmptyRun),
+        // An empty file is an accepted sheet, so that 9 is the place's alone.
+        Err(Refusal { number: 9, .. }) if file.is_empty() && place > length as u64 => {
+            tally.count(Kind::EmptyRunPastEnd);
+        }
+        _ => {}
+    }
+    reply
+}
+
 pub(super) fn sign(p: u8, file: &[u8], capture: &[u8], tally: &mut Tally) -> Answer {
     let signed = sign_off(p, file, capture, tally);
     let result = match signed {

@@ -27,7 +27,7 @@ mul-length : tie.Need-mul-length
 mul-length c = search needs
 
 add-length : tie.Need-add-length
-add-length c = rw (c .zeros-of .ensures) (omega (arith, zeros-most (c .before .before .args .form)))
+add-length c = rw (c .zeros-of .ensures) (omega (arith, zeros-most (c .before .before .args .form) (c .before .before .args .count)))
 
 lacks-room-requires : tie.Need-lacks-room-requires
 lacks-room-requires c κs = search needs
@@ -37,8 +37,8 @@ returns c =
     let g = c .before .before .before .before .args in
     let lines = firstLines (g .lines) (g .count) in
     let bytes = sheetBytes (g .form) (g .profile) lines in
-    let long : length bytes ≡ zerosOf (g .form) + g .count * recordSize =
-    sheet-length (g .form) (g .profile) lines ∙ ap (λ (n : ℕ). zerosOf (g .form) + n * recordSize) (first-many (g .lines) (g .count)) in
+    let long : length bytes ≡ zerosOf (g .form) (g .count) + g .count * recordSize =
+    sheet-length (g .form) (g .profile) lines ∙ ap (λ (n : ℕ). zerosOf (g .form) n + n * recordSize) (first-many (g .lines) (g .count)) in
     let full : lacksRoom (length (g .buf .now)) (g .at) (length bytes) ≡ true =
     rw (long, ← c .before .before .zeros-of .ensures) (sym (c .before .lacks-room .ensures) ∙ c .if1 .taken) in
     let w = write-nine [] (g .buf .now) (g .at) bytes tt full in
@@ -67,12 +67,12 @@ returns-2 : tie.Need-returns-2
 returns-2 c =
     let g = c .before .before .before .before .before .before .before .before .args in
     let zeros = c .before .before .before .before .before .before .zeros-of .ensures in
-    let n = zerosOf (g .form) + g .count * recordSize in
+    let n = zerosOf (g .form) (g .count) + g .count * recordSize in
     let first = first-short (g .lines) (g .count) (search needs) in
     let lines = firstLines (g .lines) (g .count) in
     let bytes = sheetBytes (g .form) (g .profile) lines in
     let long : length bytes ≡ n =
-    sheet-length (g .form) (g .profile) lines ∙ ap (λ (m : ℕ). zerosOf (g .form) + m * recordSize) (first-many (g .lines) (g .count)) in
+    sheet-length (g .form) (g .profile) lines ∙ ap (λ (m : ℕ). zerosOf (g .form) m + m * recordSize) (first-many (g .lines) (g .count)) in
     let room : lacksRoom (length (g .buf .now)) (g .at) (length bytes) ≡ false =
     rw (long, ← zeros) (sym (c .before .before .before .before .before .lacks-room .ensures) ∙ c .before .before .before .before .if1 .left) in
     let w = write-there [] (g .buf .now) (g .at) bytes tt room in (

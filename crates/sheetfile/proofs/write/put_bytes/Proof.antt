@@ -6,7 +6,7 @@ use lib.Seq.{length-take-le}
 use Rattle.lists.specs.InOrder.{inOrder}
 use Rattle.sheetfile.specs.File.{recordSize}
 use Rattle.sheetfile.specs.Computed.{bytesOf}
-use Rattle.sheetfile.proofs.Filled.{filled-tail, in-order-length, bytes-six}
+use Rattle.sheetfile.proofs.Filled.{filled-tail, in-order-length, bytes-six, sheet-bytes}
 use borrow.Author.Needs.{needs}
 use Rattle.sheetfile.proofs.write.put_bytes.Statement.{statement}
 use Rattle.sheetfile.proofs.write.put_bytes.Tie as tie
@@ -37,11 +37,12 @@ returns c =
     let g = c .before .before .before .before .before .before .before .before .before .before .args in
     let room : g .count ≤ length (g .lines) = search needs in
     let bytes = inOrder (bytesOf (g .form) (g .profile)) (take (g .count) (g .lines)) in
+    let many : length (take (g .count) (g .lines)) ≡ g .count = length-take-le (g .count) (g .lines) room in
     let long : length bytes ≡ g .count * recordSize =
-    in-order-length (bytesOf (g .form) (g .profile)) (bytes-six (g .form) (g .profile)) (take (g .count) (g .lines)) ∙ ap (λ (n : ℕ). n * recordSize) (length-take-le (g .count) (g .lines) room) in
+    in-order-length (bytesOf (g .form) (g .profile)) (bytes-six (g .form) (g .profile)) (take (g .count) (g .lines)) ∙ ap (λ (n : ℕ). n * recordSize) many in
     let zeros = c .before .before .before .before .before .before .before .before .zeros-of .ensures in
     filled-tail (c .before .before .before .before .before .before .put-zeros .last .0) (g .tail .now) (replicate (c .before .before .before .before .before .before .before .before .zeros-of .result) 0) bytes (c .before .before .put-lines .last .0) (c .before .before .before .before .before .before .before .before .zeros-of .result) (g .count * recordSize) (length-replicate (c .before .before .before .before .before .before .before .before .zeros-of .result) 0) (c .before .before .before .before .before .before .put-zeros .ensures) long (c .before .before .put-lines .ensures)
-    ∙ rw zeros
+    ∙ rw (sheet-bytes (g .form) (g .profile) (take (g .count) (g .lines)), many, zeros)
 
 pub put-bytes-spec : {M : Type 1} → statement M
 put-bytes-spec =

@@ -1,5 +1,4 @@
 -- `sheetfile::write::put_run` meets its contract.
-use Rattle.sheetfile.specs.Run.{runOf}
 use borrow.Author.Needs.{needs}
 use Rattle.sheetfile.proofs.write.put_run.Statement.{statement}
 use Rattle.sheetfile.proofs.write.put_run.Tie as tie
@@ -11,7 +10,6 @@ same-length : tie.Need-same-length
 same-length c = search needs
 
 returns : tie.Need-returns
-unfolding runOf
 returns c = c .before .before .put-sheet .ensures
 
 pub put-run-spec : {M : Type 1} → statement M
