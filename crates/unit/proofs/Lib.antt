@@ -18,4 +18,5 @@ pub mod Wrote
 pub mod Truth
 pub mod Signs
 pub mod Witness
+pub mod TooFew
 pub mod ZeroWitness

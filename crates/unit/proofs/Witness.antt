@@ -1,5 +1,5 @@
 -- Demand 3's premises can be met, computed: legal settings that differ from the full sheet of A on each of its fifteen lines, and a plug
--- pulled inside a frame, inside the last one, and inside the flush. And 254 zeros do not suffice.
+-- pulled inside a frame, inside the last one, and inside the flush.
 use mathlib.Core.Path.{_≡_, refl, ap, sym, _∙_}
 use mathlib.Core.Bool.{Bool, true, false, cond, not, _&&_}
 use mathlib.Core.List.{List, [], _∷_, _++_, map}
@@ -19,22 +19,19 @@ use Rattle.message.specs.Content.{contentOf}
 use Rattle.message.specs.Message.{readOf}
 use Rattle.message.proofs.Tidy.{every, row-passes}
 use Rattle.lists.specs.InOrder.{inOrder}
-use Rattle.sheet.specs.Line.{isLegal}
 use Rattle.sheetfile.specs.Run.{runOf}
-use Rattle.sheetfile.proofs.Witness.{line, fifteen, fifteen-accepted}
+use Rattle.sheetfile.proofs.Witness.{fifteen, fifteen-accepted}
 use Rattle.sheet.specs.declared.line.Line.{Line}
 use Rattle.unit.specs.Unit.{Setting, value, input, current, sameSetting, Unit, Holds, frameDone, after}
 use Rattle.unit.specs.Legal.{LegalSettings, RowIn}
 use Rattle.unit.specs.SettingsPromise.{SomeLegalPromise}
-use Rattle.unit.specs.Sending.{settingOf, NotOn, sending, sendings}
+use Rattle.unit.specs.Sending.{settingOf, NotOn, sendings}
 use Rattle.unit.specs.UnitTablePromise.{zeroSettings}
 use Rattle.unit.specs.Demand3.{stopped, moment, Promised}
-use Rattle.unit.specs.SendingPromise.{SendingPromise, FlushPromise}
 use Rattle.lists.proofs.Tests.{both}
 use Rattle.unit.proofs.Cells.{cell-self}
 use Rattle.unit.proofs.Tests.{clash}
 use Rattle.judging.proofs.Judges.{judged-lies}
-use Rattle.unit.proofs.Sendings.{sending-promise}
 use Rattle.unit.proofs.Demand.{demand-3}
 use Rattle.streams.specs.Stream.{readerBy}
 
@@ -126,33 +123,3 @@ untouched n = (
   applied .others n (input 0x06) (not-on fifteen (input 0x06) refl),
   applied .others n current (not-on fifteen current refl),
 )
-
--- a unit stopped after 21 01 3A FF, with all of 255 bytes of data to come, and a sheet of one line
-abbrev stuck : Unit
-stuck = stopped A zeroSettings (0x21 ∷ 0x01 ∷ 0x3A ∷ 0xFF ∷ [])
-
-abbrev single : List Line
-single = line 1 0x3A 0x05 ∷ []
-
--- with 254 zeros the line's 21 is taken for data, and its frame is lost; with 255 it falls on the end place
-pub lost : after stuck (sending 254 single) .settings (value 1 0x3A) ≡ 0x00
-unfolding inOrder readerBy frameDone frameOf answerTo takenAfter readOf contentOf firstRow table numberOf codeOf plainCodeOf
-lost = refl
-
-pub found : after stuck (sending 255 single) .settings (value 1 0x3A) ≡ 0x05
-unfolding inOrder readerBy frameDone frameOf answerTo takenAfter readOf contentOf firstRow table numberOf codeOf plainCodeOf
-found = refl
-
-single-legal : isLegal A (line 1 0x3A 0x05) ≡ true
-unfolding isLegal rowJudged firstRow table
-single-legal = refl
-
-pub too-few : SendingPromise 254 → ⊥
-unfolding inOrder readerBy frameDone frameOf answerTo takenAfter readOf contentOf firstRow table numberOf codeOf plainCodeOf
-too-few promise =
-    let held = promise .holds A zeroSettings (0x21 ∷ 0x01 ∷ 0x3A ∷ 0xFF ∷ []) single [] (omega arith, (omega arith, (omega arith, (omega arith, tt)))) (single-legal, tt) (tt, tt) .full .0 in
-    let z : _≡_ {A = ℕ} 0 5 = held in
-    omega (arith, z)
-
-pub flush-promise : FlushPromise
-flush-promise = record { enough = sending-promise; few = too-few }

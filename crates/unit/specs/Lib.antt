@@ -9,6 +9,7 @@ pub mod UnitPromise
 pub mod UnitTablePromise
 pub mod Demand3
 pub mod SendingPromise
+pub mod FlushPromise
 pub mod WrittenDemand3
 pub mod TruthPromise
 pub mod StoppedPromise
