@@ -68,10 +68,11 @@ unfolding frameOf
 bytes-six form.File profile l = refl
 bytes-six form.Run profile l = refl
 
--- what a sheet is written as: its zeros, and its lines in order
+-- any lines have the flush before them
 pub flush-some : (n : ℕ) → (n ≡ 0 → ⊥) → flushOf n ≡ flush
 flush-some n some = rw (ne-eqb n 0 some)
 
+-- what a sheet is written as: its zeros, and its lines in order
 pub sheet-bytes : (f : Form) (profile : Profile) (ls : List Line) → sheetBytes f profile ls ≡ replicate (zerosOf f (length ls)) 0 ++ inOrder (bytesOf f profile) ls
 unfolding runOf inOrder
 sheet-bytes form.File profile ls = refl
