@@ -64,7 +64,7 @@ too-few-promise = record {
 
 pub flush-promise : FlushPromise
 unfolding runOf
-flush-promise = record { sent = λ l ls. refl; enough = sending-promise; few = too-few-promise }
+flush-promise = record { sent = λ l ls. refl; enough = λ zeros h. sending-promise zeros (omega arith); few = too-few-promise }
 
 -- with the run's 255 zeros the 21 falls on the end place, and the unit holds the sheet's value
 pub found : after stuck (runOf (oneLine ∷ [])) .settings (settingOf oneLine) ≡ 0x01

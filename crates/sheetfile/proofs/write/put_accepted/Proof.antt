@@ -1,7 +1,7 @@
 -- `sheetfile::write::put_accepted` meets its contract.
 use mathlib.Core.Path.{_≡_, ap, sym, _∙_}
 use mathlib.Core.Bool.{true, false}
-use mathlib.Core.List.{[]}
+use mathlib.Core.List.{List, []}
 use Prim.Native.Nat.{ℕ, _+_, _*_}
 use native.Mathlib.Omega.{arith}
 use lib.ListN.{length}
@@ -9,16 +9,23 @@ use Rattle.lent.specs.Written.{lacksRoom}
 use Rattle.lent.proofs.Room.{room-place, room-within}
 use Rattle.lent.proofs.Tail.{tail-placed}
 use Rattle.lent.proofs.Writes.{write-nine, write-there}
+use Rattle.row.specs.declared.profile.Profile.{Profile}
 use Rattle.sheet.specs.Sheet.{firstLines}
+use Rattle.sheet.specs.declared.line.Line.{Line}
 use Rattle.sheetfile.specs.File.{recordSize}
 use Rattle.sheetfile.specs.Written.{asSheet}
 use Rattle.sheetfile.specs.Computed.{zerosOf, sheetBytes}
+use Rattle.sheetfile.specs.declared.write.Form.{Form}
 use Rattle.sheetfile.specs.declared.write.SheetWritten.the-variants.{Bytes}
 use Rattle.sheet.proofs.Faults.{first-short, first-many}
 use Rattle.sheetfile.proofs.Filled.{sheet-length, zeros-most}
 use borrow.Author.Needs.{needs}
 use Rattle.sheetfile.proofs.write.put_accepted.Statement.{statement}
 use Rattle.sheetfile.proofs.write.put_accepted.Tie as tie
+
+-- how many bytes the first lines are written as
+written-length : (f : Form) (profile : Profile) (lines : List Line) (count : ℕ) → length (sheetBytes f profile (firstLines lines count)) ≡ zerosOf f count + count * recordSize
+written-length f profile lines count = sheet-length f profile (firstLines lines count) ∙ ap (λ (n : ℕ). zerosOf f n + n * recordSize) (first-many lines count)
 
 zeros-of-requires : tie.Need-zeros-of-requires
 zeros-of-requires c κs = search needs
@@ -35,10 +42,8 @@ lacks-room-requires c κs = search needs
 returns : tie.Need-returns
 returns c =
     let g = c .before .before .before .before .args in
-    let lines = firstLines (g .lines) (g .count) in
-    let bytes = sheetBytes (g .form) (g .profile) lines in
-    let long : length bytes ≡ zerosOf (g .form) (g .count) + g .count * recordSize =
-    sheet-length (g .form) (g .profile) lines ∙ ap (λ (n : ℕ). zerosOf (g .form) n + n * recordSize) (first-many (g .lines) (g .count)) in
+    let bytes = sheetBytes (g .form) (g .profile) (firstLines (g .lines) (g .count)) in
+    let long = written-length (g .form) (g .profile) (g .lines) (g .count) in
     let full : lacksRoom (length (g .buf .now)) (g .at) (length bytes) ≡ true =
     rw (long, ← c .before .before .zeros-of .ensures) (sym (c .before .lacks-room .ensures) ∙ c .if1 .taken) in
     let w = write-nine [] (g .buf .now) (g .at) bytes tt full in
@@ -69,10 +74,8 @@ returns-2 c =
     let zeros = c .before .before .before .before .before .before .zeros-of .ensures in
     let n = zerosOf (g .form) (g .count) + g .count * recordSize in
     let first = first-short (g .lines) (g .count) (search needs) in
-    let lines = firstLines (g .lines) (g .count) in
-    let bytes = sheetBytes (g .form) (g .profile) lines in
-    let long : length bytes ≡ n =
-    sheet-length (g .form) (g .profile) lines ∙ ap (λ (m : ℕ). zerosOf (g .form) m + m * recordSize) (first-many (g .lines) (g .count)) in
+    let bytes = sheetBytes (g .form) (g .profile) (firstLines (g .lines) (g .count)) in
+    let long = written-length (g .form) (g .profile) (g .lines) (g .count) in
     let room : lacksRoom (length (g .buf .now)) (g .at) (length bytes) ≡ false =
     rw (long, ← zeros) (sym (c .before .before .before .before .before .lacks-room .ensures) ∙ c .before .before .before .before .if1 .left) in
     let w = write-there [] (g .buf .now) (g .at) bytes tt room in (
