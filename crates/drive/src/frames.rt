@@ -15,11 +15,11 @@ use frame::capture::Counted;
 use frame::capture::Event;
 use frame::capture::Kind;
 use frame::capture::Next;
-use frame::capture::next_event;
 use frame::direction::Direction;
 use frame::direction::NamedDirection;
 use frame::reader::ByteAnswer;
 use frame::reader::Reader;
+use frame_capture::capture::next_event;
 use words::arguments::argument;
 use words::arguments::byte;
 use words::arguments::number;
@@ -177,7 +177,7 @@ fn say_event(event: Event) {
 }
 
 fn totals(letter: u8, capture: &[u8]) {
-    match frame::capture::capture_totals_by_letter(letter, capture) {
+    match frame_capture::capture::capture_totals_by_letter(letter, capture) {
         Counted::Totals(totals) => {
             say_counted(b"frame ", totals.frame as u64);
             say_counted(b" broken ", totals.broken as u64);

@@ -59,7 +59,7 @@ fn say_code(coded: Coded) {
 
 fn profiled(operation: usize, profile: Profile, space: &[u8], ends: [usize; 14]) {
     if operation == names::ROW {
-        say_row(row::table::find_row(profile, byte(space, ends, 2)));
+        say_row(row_table::table::find_row(profile, byte(space, ends, 2)));
         return;
     }
     if operation == names::LEGAL {
@@ -68,7 +68,7 @@ fn profiled(operation: usize, profile: Profile, space: &[u8], ends: [usize; 14])
             command: byte(space, ends, 3),
             value: byte(space, ends, 4),
         };
-        say_legal(sheet::line::is_legal(profile, line));
+        say_legal(sheet_code::line::is_legal(profile, line));
         return;
     }
     if operation == names::CODES {
@@ -117,7 +117,7 @@ fn directed(
     let zone = byte(space, ends, 3);
     let command = byte(space, ends, 4);
     let answer = byte(space, ends, 5);
-    let reading = message::read::read_message(profile, direction, zone, command, answer, body);
+    let reading = message_read::read::read_message(profile, direction, zone, command, answer, body);
     say_reading(reading, body)
 }
 
@@ -130,8 +130,8 @@ pub(crate) fn say_reading(reading: Reading, body: &[u8]) {
 }
 
 fn frame(profile: Profile, direction: Direction, bytes: &[u8]) {
-    let reading = message::read::read_frame(profile, direction, bytes);
-    let body = message::read::denied_data(profile, direction, bytes);
+    let reading = message_read::read::read_frame(profile, direction, bytes);
+    let body = message_read::read::denied_data(profile, direction, bytes);
     match reading {
         FrameReading::Message(message) => say_message(message, body),
         FrameReading::Refused(number) => say_refused(number),

@@ -1,6 +1,6 @@
 // What is printed, on standard output.
-use characters::decimal::write_integer;
 use characters::hex::hex_digit;
+use decimal::decimal::write_integer;
 use lent::part::bytes_at;
 use lent::written::Written;
 

@@ -38,9 +38,9 @@ fn say_refused(number: u8, place: usize) {
 }
 
 fn check(letter: u8, file: &[u8]) {
-    match sheetfile::by_letter::check_file(letter, file) {
+    match sheetfile_code::by_letter::check_file(letter, file) {
         Verdict::Accepted => {
-            say_sheet(sheetfile::file::read_file_by_letter(letter, file));
+            say_sheet(sheetfile_code::file::read_file_by_letter(letter, file));
         }
         Verdict::Refused(number, place) => say_refused(number, place),
     }
@@ -87,7 +87,7 @@ pub(crate) fn say_written(written: SheetWritten, buf: &[u8]) {
 }
 
 fn sign(letter: u8, file: &[u8], capture: &[u8]) {
-    match signing::by_letter::sign_file(letter, file, capture) {
+    match signing_code::by_letter::sign_file(letter, file, capture) {
         Signed::Yes => say(b"signed"),
         Signed::No => say(b"not signed"),
         Signed::Refused(number, place) => say_refused(number, place),
@@ -95,7 +95,7 @@ fn sign(letter: u8, file: &[u8], capture: &[u8]) {
 }
 
 fn cell(letter: u8, capture: &[u8], zone: u8, command: u8) {
-    match signing::by_letter::cell_in_capture(letter, capture, zone, command) {
+    match signing_code::by_letter::cell_in_capture(letter, capture, zone, command) {
         CaptureCell::Value(value) => {
             say(b"value");
             say_byte_after(value)

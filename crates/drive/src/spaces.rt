@@ -11,7 +11,7 @@ use crate::out::say_letter;
 use frame::direction::Direction;
 use message::read::Message;
 use message::read::Reading;
-use message::read::read_message;
+use message_read::read::read_message;
 use row::profile::Profile;
 
 const BYTES: u16 = 256;

@@ -11,8 +11,8 @@ use lent::written::Written;
 use message::read::Denial;
 use message::read::Message;
 use message::read::Said;
-use message::write::write_fields;
-use message::write::write_message;
+use message_write::write::write_fields;
+use message_write::write::write_message;
 use row::profile::NamedProfile;
 use row::profile::Profile;
 use sheetfile::write::SheetWritten;
@@ -104,9 +104,9 @@ fn write_sheet(
     let letter = byte(space, ends, 1);
     let file = argument(space, ends, 4);
     if operation == names::COPY {
-        return sheetfile::by_letter::copy_file(letter, file, buf, spot);
+        return sheetfile_code::by_letter::copy_file(letter, file, buf, spot);
     }
-    sheetfile::by_letter::run_of_file(letter, file, buf, spot)
+    sheetfile_code::by_letter::run_of_file(letter, file, buf, spot)
 }
 
 fn write(
@@ -117,11 +117,7 @@ fn write(
     spot: usize,
 ) -> Written {
     if operation == names::DECIMAL {
-        return characters::decimal::write_decimal(
-            buf,
-            spot,
-            (number(space, ends, 3) % 65536) as u32,
-        );
+        return decimal::decimal::write_decimal(buf, spot, (number(space, ends, 3) % 65536) as u32);
     }
     if operation == names::HEX {
         return characters::hex::write_hex(buf, spot, byte(space, ends, 3));

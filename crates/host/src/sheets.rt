@@ -1,13 +1,13 @@
 use row::profile::Profile;
 use sheet::check::Verdict;
-use sheet::check::checked;
 use sheet::line::Line;
 use sheet::sheet::Sheet;
-use sheet::sheet::no_lines;
-use sheet::sheet::with_line;
+use sheet_code::check::checked;
+use sheet_code::lines::no_lines;
+use sheet_code::lines::with_line;
 use sheetfile::write::SheetWritten;
-use sheetfile::write::put_file;
-use sheetfile::write::put_run;
+use sheetfile_code::write::put_file;
+use sheetfile_code::write::put_run;
 ghost use mathlib.Core.Path.{_≡_};
 ghost use Rattle.sheet.specs.Sheet.{withAll};
 ghost use Rattle.sheet.specs.Check.{sheetVerdict};

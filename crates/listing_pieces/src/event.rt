@@ -12,7 +12,7 @@ use message::read::Denial;
 use message::read::FrameReading;
 use message::read::Message;
 use message::read::Said;
-use message::read::read_frame;
+use message_read::read::read_frame;
 use row::profile::Profile;
 ghost use mathlib.Core.Path.{_≡_};
 ghost use mathlib.Core.List.{_++_};

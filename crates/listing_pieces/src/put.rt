@@ -1,7 +1,7 @@
 // Text at a place of a buffer that has room for it: each function answers the place behind its text.
-use characters::decimal::write_decimal;
-use characters::decimal::write_integer;
 use characters::hex::write_hex;
+use decimal::decimal::write_decimal;
+use decimal::decimal::write_integer;
 use lent::written::Written;
 use lent::written::write_bytes;
 ghost use mathlib.Core.Path.{_≡_};

@@ -1,8 +1,8 @@
 // What an input of the listing program asks for.
-use frame::capture::CAPTURE_LIMIT;
 use frame::direction::Direction;
 use frame::direction::NamedDirection;
 use frame::direction::direction_of;
+use frame_capture::capture::CAPTURE_LIMIT;
 use row::profile::NamedProfile;
 use row::profile::Profile;
 use row::profile::profile_of;

@@ -1,10 +1,10 @@
 pub mod Readings
 pub mod Writes
 pub mod Tidy
-mod Codes
+pub mod Codes
 pub mod Fits
-mod Says
-mod Written
+pub mod Says
+pub mod Written
 pub mod Forms
 pub mod Witness
 pub mod Trip

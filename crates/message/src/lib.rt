@@ -1,6 +1,4 @@
-// Messages: what frames mean in a profile. `content` says what data say in a row, and what data say it; `read` makes a typed
-// message of zone, command, answer code and data, or gives the refusal's number; `write` goes the other way, makes the same
-// checks, and then 9.
+// Messages: what frames mean in a profile. `content` is what data say in a row, and `read` a typed message.
+// `message_content`, `message_read` and `message_write` have the code.
 pub mod content;
 pub mod read;
-pub mod write;

@@ -1,7 +1,7 @@
 // Writes the run of a sheet file to standard output, ready for a serial port.
 //   run PROFILE SHEET
-use sheetfile::write::RUN_ROOM;
 use sheetfile::write::SheetWritten;
+use sheetfile_code::write::RUN_ROOM;
 
 const OUT: i32 = 1;
 
@@ -34,7 +34,7 @@ fn main() {
 
 fn write_run(letter: u8, file: &[u8]) {
     let mut run = [0u8; RUN_ROOM];
-    match sheetfile::by_letter::run_of_file(letter, file, &mut run, 0) {
+    match sheetfile_code::by_letter::run_of_file(letter, file, &mut run, 0) {
         SheetWritten::Bytes(count) => {
             io::write_all(OUT, lent::part::bytes_at(&run, 0, count));
         }

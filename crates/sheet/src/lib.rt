@@ -1,5 +1,5 @@
-// Sheets of wanted settings. `line` says which line is legal, `sheet` keeps a sheet's lines by value, and `check` accepts a
-// sheet or finds its lowest fault: 6, then 7 and 8 with the line's index.
+// Sheets of wanted settings: a line (`line`), a sheet's lines by value (`sheet`), and what the check of a sheet answers
+// (`check`). `sheet_code` has the code.
 pub mod check;
 pub mod line;
 pub mod sheet;

@@ -1,5 +1,4 @@
-// The sign-off of a sheet. `sign` holds the lines against what a tracker knows; `capture` does so with a tracker of its own,
-// fed with one capture alone; `by_letter` takes a profile's letter and a sheet file's bytes instead of lines.
+// The sign-off of a sheet: what it answers (`sign`), and what is known of one cell after a capture (`by_letter`).
+// `signing_code` has the code.
 pub mod by_letter;
-pub mod capture;
 pub mod sign;

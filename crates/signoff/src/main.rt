@@ -1,7 +1,7 @@
 // Signs a sheet file off by a capture of answers, with a tracker of its own.
 //   signoff PROFILE SHEET CAPTURE
-use characters::decimal::write_integer;
 use characters::hex::hex_digit;
+use decimal::decimal::write_integer;
 use frame::direction::Direction;
 use lent::part::bytes_at;
 use lent::written::Written;
@@ -55,7 +55,7 @@ fn main() {
 }
 
 fn sign(letter: u8, file: &[u8], capture: &[u8]) {
-    match signing::by_letter::sign_file(letter, file, capture) {
+    match signing_code::by_letter::sign_file(letter, file, capture) {
         Signed::Yes => {
             io::write_all(OUT, b"signed\n");
         }
@@ -63,7 +63,7 @@ fn sign(letter: u8, file: &[u8], capture: &[u8]) {
             io::write_all(OUT, b"not signed\n");
             say_lines(
                 letter,
-                sheetfile::file::read_file_by_letter(letter, file),
+                sheetfile_code::file::read_file_by_letter(letter, file),
                 capture,
             );
         }
@@ -101,7 +101,7 @@ fn each_line(letter: u8, lines: [Line; SHEET_LIMIT], count: usize, capture: &[u8
 }
 
 fn say_line(letter: u8, line: Line, capture: &[u8]) {
-    match signing::by_letter::cell_in_capture(letter, capture, line.zone, line.command) {
+    match signing_code::by_letter::cell_in_capture(letter, capture, line.zone, line.command) {
         CaptureCell::Value(value) => {
             if value != line.value {
                 say_wanted(letter, line);
@@ -140,7 +140,7 @@ fn say_value(letter: u8, zone: u8, command: u8, value: u8) {
 }
 
 fn say_status(profile: Profile, zone: u8, command: u8, value: u8) {
-    match message::read::read_message(profile, Direction::Answer, zone, command, 0, &[value]) {
+    match message_read::read::read_message(profile, Direction::Answer, zone, command, 0, &[value]) {
         Reading::Message(message) => {
             say_message(message, value);
         }

@@ -1,0 +1,2 @@
+// What data say in a row, and what data say it.
+pub mod content;
