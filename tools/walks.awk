@@ -1,0 +1,690 @@
+# Writes the proof of one door of crate host: a walk of its MIR from its parameters to its contract.
+#   awk -v door=MODULE::FUNCTION -f tools/walks.awk
+# It is run in the repository's root, and reads what it needs: the door's line in crates/host/doors.txt, the door, what it
+# calls and the types of both in crates/*/src, and the texts of tools/walks.forms. A list is a text with | between.
+
+function fail(text) { print "tools/walks: " door ": " text > "/dev/stderr"; exit 2 }
+function before(text, mark) { return substr(text, 1, index(text, mark) - 1) }
+function behind(text, mark) { return substr(text, index(text, mark) + length(mark)) }
+function joined(list, item) { return list == "" ? item : list "|" item }
+function spaced(list, between) { gsub(/[|]+/, between == "" ? " " : between, list); return list }
+
+# ---- the sources
+
+# reads a module, crate::module: where its names come from, its types with their fields, its functions
+function read_module(at,    path, line, got, inside, name, list, i) {
+    if (at in was_read) return
+    was_read[at] = 1
+    path = "crates/" at ".rt"
+    sub(/::/, "/src/", path)
+    while ((got = (getline line < path)) > 0) {
+        sub(/ *\/\/.*/, "", line)
+        if (line ~ /^use [a-z_]+::[a-z_]+::[A-Za-z0-9_]+;/) {
+            split(line, list, /use |::|;/)
+            home[at, list[4]] = (list[2] == "crate" ? part_of(at, 1) : list[2]) "::" list[3]
+        } else if (line ~ /^ghost use .*[{].*[}];/) {
+            split(line, list, /^ghost use |[.][{]|[}];/)
+            name = list[2]
+            for (i = split(list[3], list, /, */); i > 0; i--) defined[at, list[i]] = name
+        } else if (match(line, /^(pub([(]crate[)])? )?(struct|enum|fn) [A-Za-z0-9_]+/)) {
+            i = split(substr(line, 1, RLENGTH), list, " ")
+            home[at, list[i]] = at
+            name = at "::" list[i]
+            sort[name] = inside = list[i - 1]
+            head[name] = substr(line, RLENGTH + 1)
+        } else if (line == "}" || line == "{" && inside == "fn") {
+            inside = line == "{" ? "body" : ""
+        } else if (inside == "struct" && match(line, /[a-z0-9_]+: .*,/)) {
+            split(substr(line, RSTART), list, /: |,/)
+            field[name, ++fields[name]] = list[1]
+            field_type[name, fields[name]] = list[2]
+        } else if (inside == "fn") {
+            head[name] = head[name] " " line
+        } else if (inside == "body") {
+            sub(/^ +/, "", line)
+            body[name] = body[name] (body[name] == "" ? "" : " ") line
+        }
+    }
+    close(path)
+    if (got < 0) fail(path " is not there")
+}
+
+# part 1, 2 or 3 of crate::module::Name; and crate::module
+function part_of(name, number,    list) { split(name, list, "::"); return list[number] }
+function module_of(name) { return part_of(name, 1) "::" part_of(name, 2) }
+
+# where a name that a module uses is declared: crate::module::Name; a number's type is its name alone
+function found(at, name) {
+    if (name in width) return name
+    if (!((at, name) in home)) fail(at " does not say where " name " comes from")
+    read_module(home[at, name])
+    return home[at, name] "::" name
+}
+
+# reads a function's head: its parameters with their kinds, what it gives, and its contract, a clause for each `ensures`
+function read_head(fn,    at, text, list, pair, k, i) {
+    if (fn in gives) return
+    at = module_of(fn)
+    text = head[fn]
+    if (sort[fn] != "fn") fail(fn " is no function")
+    if (text ~ / requires /) fail(fn " asks something of its caller")
+    k = split(substr(text, 2, index(text, ")") - 2), list, ",")
+    for (i = 1; i <= k; i++) if (split(list[i], pair, /^ +|: /) > 1) read_parameter(fn, at, pair[1] == "" ? pair[2] : pair[1], behind(list[i], ": "))
+    if (!match(text, /[)] -> [A-Za-z0-9_]+ /)) fail(fn " gives nothing that a walk can follow")
+    gives[fn] = found(at, substr(text, RSTART + 5, RLENGTH - 6))
+    clauses[fn] = split(text, list, / +ensures /) - 1
+    if (clauses[fn] < 1 || clauses[fn] > 2) fail(fn " has not one `ensures` or two")
+    for (i = 1; i <= clauses[fn]; i++) {
+        text = list[i + 1]
+        if (!sub(/^([a-z]+ )?[{] λ /, "", text) || !sub(/ ⌝ [}] *$/, "", text)) fail(fn " has an `ensures` that is not { λ r. ⌜ .. ⌝ }")
+        bound[fn, i] = before(text, ". ⌜ ")
+        clause[fn, i] = behind(text, ". ⌜ ")
+    }
+}
+
+# a parameter: its name, its kind, and the type of what it is or lends
+function read_parameter(fn, at, name, text,    i) {
+    i = ++takes[fn]
+    takes[fn, i] = name
+    takes_as[fn, i] = text ~ /^&mut \[/ ? "mutslice" : text ~ /^&\[/ ? "slice" : text ~ /^&mut / ? "mutref" : text ~ /^&/ ? "ref" : "value"
+    gsub(/^&(mut )?\[?|\]?$/, "", text)
+    takes_type[fn, i] = found(at, text)
+}
+
+# a text with each stretch of a pattern replaced by its word of that number
+function replaced(text, pattern, number, ending,    list) {
+    while (match(text, pattern)) {
+        split(substr(text, RSTART, RLENGTH), list, " ")
+        text = substr(text, 1, RSTART - 1) list[number] ending substr(text, RSTART + RLENGTH)
+    }
+    return text
+}
+
+# a text in the walk's words: as[] has what each name stands for; the definitions of a module that it names are imported
+function worded(text, at,    list, k, i, out) {
+    gsub(/[(),]/, " & ", text); gsub(/ +/, " ", text)
+    text = replaced(text, "[(] now [(] [a-z0-9_]+ [.]entry [)] [)]", 4, "")
+    text = replaced(text, "now [(] [a-z0-9_]+ [.]entry [)]", 3, "")
+    text = replaced(text, "now [(] [a-z0-9_]+ [.]exit [)]", 3, ".exit")
+    k = split(text, list, " ")
+    for (i = 1; i <= k; i++) {
+        out = out " " (list[i] in as ? as[list[i]] : list[i])
+        import_name(list[i], at)
+        import_name("_" list[i] "_", at)
+    }
+    gsub(/[(] /, "(", out); gsub(/ [)]/, ")", out); gsub(/ ,/, ",", out)
+    return substr(out, 2)
+}
+function import_name(name, at,    module) {
+    if (!((at, name) in defined)) return
+    module = defined[at, name]
+    sub(/·specs[.]specs/, ".specs", module)
+    if (name in walk_has && walk_has[name] != module) fail("a contract has " name " of " module ", a name that the walk has itself")
+    if (!(module in names_from) && !(name in walk_has)) modules[++modules_named] = module
+    if (name in walk_has || index("|" names_from[module] "|", "|" name "|")) return
+    names_from[module] = joined(names_from[module], name)
+}
+
+# a clause of a contract in the walk's words
+function said_by(fn, i,    text) {
+    text = worded(clause[fn, i], module_of(fn))
+    if (!index(text, " ≡ ")) fail("a clause of " fn " is no equation: " text)
+    return text
+}
+
+# the door's line: its laws, and the file that they are in
+function read_line(    path, line, list, got, k, i) {
+    path = "crates/host/doors.txt"
+    while ((getline line < path) > 0) {
+        k = split(line, list, " ")
+        if (line ~ /^#/ || list[1] != door) continue
+        if (got++) fail("it has two lines in " path)
+        if (k > 1 && line !~ /^[^ ]+ +by [^ ].* of [a-z_]+\/proofs\/[A-Za-z]+[.]antt$/) fail("its line is neither NAME nor NAME by LAW, .. of CRATE/proofs/FILE.antt: " line)
+        law_file = "crates/" list[k]
+        sub(/^[^ ]+ *(by )?/, "", line); sub(/ of [^ ]*$/, "", line)
+        laws_given = split(line, law, / *, */)
+    }
+    if (!got) fail("it has no line in " path)
+    for (i = 1; i <= laws_given; i++) {
+        split(law[i], list, " ")
+        for (got = 0; (getline line < law_file) > 0; ) got += line ~ /^ *pub / && index(line, "pub " list[1] " :") > 0
+        close(law_file)
+        if (!got) fail(law_file " has no " list[1])
+        law_names = joined(law_names, list[1])
+    }
+}
+
+# ---- the forms
+
+function read_forms(    line, name, list, kinds, i) {
+    while ((getline line < "tools/walks.forms") > 0) {
+        if (line ~ /^= /) name = substr(line, 3)
+        else if (line ~ /^#/) name = ""
+        else if (name == "parameter" && split(line, list, / [|] /) == 3) for (i = split(list[2], kinds, " "); i > 0; i--) form[list[1], kinds[i]] = list[3]
+        else if (name == "imports" && line != "") {
+            imports[++imported] = line
+            for (i = split(line, list, / |:/); i > 1; i--) walk_has[list[i]] = list[1]
+        } else form[name] = form[name] line "\n"
+    }
+}
+
+# a text with what stands for each <word>
+function fill(text,    out, name) {
+    while (match(text, /<[a-z-]+>/)) {
+        name = substr(text, RSTART + 1, RLENGTH - 2)
+        if (!(name in hole)) fail("nothing stands for <" name ">")
+        out = out substr(text, 1, RSTART - 1) hole[name]
+        text = substr(text, RSTART + RLENGTH)
+    }
+    return out text
+}
+function inline(name,    text) { text = fill(form[name]); sub(/\n+$/, "", text); return text }
+
+# (a, (b, tt)), a ∷ b ∷ [], and .1 .1 .0
+function nest(list,    item, k, out) { out = "tt"; for (k = split(list, item, "|"); k > 0; k--) out = "(" item[k] ", " out ")"; return out }
+function row_of(list) { return spaced(list, " ∷ ") (list == "" ? "" : " ∷ ") "[]" }
+function turn_to(i,    out) { for (out = ".0"; i > 0; i--) out = ".1 " out; return out }
+
+# a list of some names, each behind a word
+function of_each(word, names) { gsub(/[|]/, "|" word, names); return names == "" ? "" : word names }
+
+# the tokens of some references
+function tokens(names,    list, k, out) {
+    out = "‵ ftrue"
+    for (k = split(names, list, "|"); k > 0; k--) out = "(‵ (flft κ-" list[k] " q-" list[k] ") ⊛ " out ")"
+    return out
+}
+
+# ---- types, and the things that the walk has
+
+function meaning(t) { if (!(t in width) && !(t in is_named)) { is_named[t] = 1; types[++types_named] = t } return t in width ? "ℕ" : part_of(t, 3) }
+function row(t) { return t in width ? t : "D-" meaning(t) ".the-row" }
+function mir(t) { return t in width ? "(tyInt " width[t] ")" : "D-" meaning(t) "′.mir" }
+
+# a law of a type; `of` is what its module calls the part that it takes
+function law_of(t, what, of) {
+    if (t in width) return what == "val" ? "vint " width[t] : "uint-" what (what ~ /makes|lawful/ ? " 𝓤 H A W " : " ") width[t]
+    return (sort[t] == "struct" ? "LL." : "EL.") what " D-" meaning(t) ".the-type D-" meaning(t) "′.the-" (of == "" ? "laws" : of)
+}
+
+# a thing: its kind and type, its value, its machine value, the proof that they belong together, and the number of its cell
+function have(name, its_kind, t, its_value, its_machine, its_proof, its_cell) {
+    kind[name] = its_kind; type[name] = t; value[name] = its_value; proof[name] = its_proof; cell[name] = its_cell
+    machine[name] = its_machine == "" ? law_of(t, "val") " " its_value : its_machine
+    return name
+}
+
+# what stands in the forms for a thing and the laws of its type
+function about(name,    t) {
+    t = type[name]
+    hole["n"] = name; sub(/^[*&]/, "", hole["n"])
+    hole["value"] = value[name]; hole["machine"] = machine[name]; hole["is"] = proof[name]; hole["c"] = cell[name]
+    hole["row"] = row(t); hole["meaning"] = meaning(t); hole["mir"] = mir(t)
+    hole["vals"] = law_of(t, "vals"); hole["tells"] = law_of(t, "tells"); hole["val"] = law_of(t, "val") " " value[name]
+    hole["copies"] = law_of(t, "copy", "copy"); hole["owed"] = law_of(t, "owed")
+    hole["makes"] = law_of(t, "makes", "plain") (t in width ? "" : " 𝓤 H A")
+    hole["typed"] = law_of(t, "lawful") (t in width ? "" : " 𝓤 H A W") (sort[t] == "enum" ? " tt" : "") " .typed " value[name] " _ " proof[name] " .0"
+    hole["shown"] = row(t) " (Is " row(t) ") (shows 𝓤 H A " row(t) ")"
+    hole["spelled"] = hole["shown"] " (" hole["vals"] ") (" hole["tells"] ")"
+}
+
+# a name of the source as the walk writes it; one that the walk has itself gets another
+function safe(name) { gsub(/_/, "-", name); return name in walk_has ? name "₀" : name }
+
+# the door's parameters; a reference has a lifetime of its own
+function read_parameters(    i, n) {
+    cells = takes[this] + 1
+    for (i = 1; i <= takes[this]; i++) {
+        n = name_of[i] = have(safe(takes[this, i]), takes_as[this, i], takes_type[this, i], safe(takes[this, i]), "", "is-" safe(takes[this, i]), i)
+        if (kind[n] == "value") continue
+        lifetime[n] = hole["lifetimes"]++
+        lent = joined(lent, n)
+        machine[n] = of("machine", i)
+    }
+    if (lent == "") fail("it is lent nothing, and needs no walk")
+}
+
+# what is written of a parameter; and of each of them, a list
+function of(what, i) {
+    about(name_of[i])
+    hole["j"] = lifetime[name_of[i]]; hole["its"] = turn_to(i - 1); hole["its-lifetime"] = turn_to(hole["j"])
+    return fill(form[what, kind[name_of[i]]])
+}
+function each(what,    i, out) {
+    for (i = 1; i <= takes[this]; i++) if (form[what, kind[name_of[i]]] != "") out = joined(out, of(what, i))
+    return out
+}
+
+# ---- the walk, and its context, whose items are followed by name
+
+function place(name,    i) {
+    for (i = 1; i <= size; i++) if (item[i] == name) return i - 1
+    fail("the walk comes to a place where it has no " name)
+}
+function places(names,    list, k, i, out) { k = split(names, list, " "); for (i = 1; i <= k; i++) out = joined(out, place(list[i])); return out }
+function push(names,    list, k, i) { for (k = split(names, list, " "); k > 0; k--) { for (i = ++size; i > 1; i--) item[i] = item[i - 1]; item[1] = list[k] } }
+function take(names,    list, k, i) { for (k = split(names, list, " "); k > 0; k--) { for (i = place(list[k]) + 1; i < size; i++) item[i] = item[i + 1]; size-- } }
+
+# brings items to the front, in this order; and keeps some alone
+function front(names,    list, k, i) {
+    k = split(names, list, " ")
+    for (i = 1; i <= k && place(list[i]) == i - 1; i++) ;
+    if (i > k) return
+    walk = walk "move ! (" row_of(places(names)) ") $ "
+    take(names); push(names)
+}
+function keep(names) { walk = walk "keep ! (" row_of(places(names)) ") $ "; size = 0; push(names) }
+function new_line() { sub(/ $/, "", walk); walk = walk "\n" margin }
+function closed(    out) { for (; open > 0; open--) out = out ")"; return out }
+
+# writes a piece of the walk
+function run(name,    list, k, i) {
+    if (!(name in form)) fail("there is no piece for this: " name)
+    k = split(form[name], list, "\n") - 1
+    for (i = 1; i <= k; i++) if (list[i] == "") new_line(); else step(list[i])
+}
+function step(text,    part, name) {
+    split(fill(text), part, / *[|] */)
+    front(part[2])
+    while (match(part[1], /@[^@ ]+@/)) part[1] = substr(part[1], 1, RSTART - 1) place(substr(part[1], RSTART + 1, RLENGTH - 2)) substr(part[1], RSTART + RLENGTH)
+    walk = walk part[1] (part[1] ~ /[(]λ [^()]*[.]$/ || part[1] ~ / in$/ ? " " : " $ ")
+    if (part[1] ~ /[(]λ [^()]*[.]$/) open++
+    take(part[2]); push(part[3])
+}
+
+# the same piece for each of some parameters, from the first on, or from the last
+function run_each(name, names,    list, k, i) { k = split(names, list, "|"); for (i = 1; i <= k; i++) { hole["n"] = list[i]; run(name) } }
+function run_back(name, names,    list, k) { for (k = split(names, list, "|"); k > 0; k--) { hole["n"] = list[k]; run(name) } }
+
+# from the call of the door to its first statement
+function enter(    i) {
+    hole["machines"] = row_of(each("machine"))
+    walk = margin "qed W (" tokens(lent) " ∷ ‵ (owns (" row_of(each("owner")) ") x at) ∷ []) ∵ "
+    run("enter")
+    for (i = 0; i < cells; i++) { hole["i"] = i; run("cell") }
+    run("cells")
+    for (i = 1; i <= takes[this]; i++) { hole["passed"] = of("passed", i); run("pass") }
+    run("passed")
+}
+
+# what each reference owns, and its lifetime's token
+function unpack(    i, n) {
+    for (i = 1; n != last_of(lent); i++) { n = name_of[i]; about(n); run("unpack " kind[n]) }
+    run_each("token", lent)
+    new_line()
+}
+function last_of(list) { sub(/.*[|]/, "", list); return list }
+
+# returns what is in the first cell, frees all, and shows the contract of the result; the cells up to one hold something
+function leave(result, top, why,    i, n, k, lasts, fits, kept) {
+    run("return")
+    for (i = top; i >= 0; i--) { hole["i"] = i; run("forget") }
+    new_line()
+    for (i = 0; i < cells; i++) { hole["i"] = i; run("free") }
+    run("freed")
+    for (i = 1; i <= takes[this]; i++) {
+        n = name_of[i]
+        k = kind[n]
+        lasts = joined(lasts, k ~ /^mut/ ? left[n] : "tt")
+        fits = joined(fits, k == "mutslice" ? "long-" n : "tt")
+        if (k != "value") kept = kept " lft-" n (k == "mutref" ? " obs-" n " bor-" n : k == "mutslice" ? " left-" n : "")
+    }
+    keep(kept)
+    about(result)
+    hole["lasts"] = nest(lasts); hole["fits"] = nest(fits); hole["why"] = why; hole["says"] = clauses[this] == 2 ? "says-both" : "says"
+    run("exit")
+    run("no tokens")
+    run_back("add token", lent)
+    run("exit own")
+    for (i = takes[this]; i > 0; i--) { about(name_of[i]); run("exit " (kind[name_of[i]] ~ /^mut/ ? kind[name_of[i]] : "dropped")) }
+    about(result)
+    run("exit result")
+    walk = walk "done !" closed()
+}
+
+# ---- a call
+
+# the thing that is given for an argument, made ready for the call
+function ready(word,    n, thing) {
+    n = safe(word)
+    sub(/^[*]/, "", n)
+    n = safe(n)
+    if (!(n in kind)) fail("it passes " word " on, which is no parameter and no local")
+    if ((word ~ /^[*]/) != (kind[n] ~ /ref$/)) fail("it passes " word " on, and a walk knows only that of a copy out of a reference")
+    hole["source"] = "_" cell[n]
+    if (word ~ /^[*]/) {
+        thing = have("*" n, "value", type[n], n, "", "is-" n, cells++)
+        about(thing)
+        run("copy " kind[n])
+    } else if (kind[n] == "mutslice") {
+        hole["passed"] = of("passed", cell[n]); hole["pointer"] = "_" cells++
+        thing = have("&" n, kind[n], type[n], n, machine[n], "", cells++)
+        about(thing)
+        run("lend on")
+    } else thing = n
+    return thing
+}
+
+# one call, whose result is put into a cell: into an empty one by `init`, into another by `store`
+function call(result, word, arguments, into, how,    fn, list, k, i, n, given, refs, values, machines, kept) {
+    fn = found(module_of(this), word)
+    read_head(fn)
+    if (!(fn in short)) { short[fn] = "g" ++callees; called[callees] = fn }
+    k = split(arguments, list, / *, */)
+    if (k != takes[fn] + 0) fail("it passes " k " arguments to " fn ", which takes " takes[fn] + 0)
+    walk = walk "-- " fn
+    new_line()
+    split("", as)
+    hole["operands"] = "(no-more !)"
+    for (i = 1; i <= k; i++) {
+        n = given[i] = ready(list[i])
+        if (kind[n] != takes_as[fn, i] || type[n] != takes_type[fn, i]) fail("it passes " list[i] " to " fn ", which takes another type there")
+        as[takes[fn, i]] = value[n]
+        as[takes[fn, i] ".exit"] = "(ws-" result " " turn_to(i - 1) ")"
+        if (kind[n] == "mutslice") { left[value[n]] = as[takes[fn, i] ".exit"]; kept = i }
+        if (kind[n] != "value") refs = joined(refs, value[n])
+        values = joined(values, (kind[n] == "value" ? "" : "ref-") value[n])
+        machines = joined(machines, machine[n] " ∷ []")
+    }
+    run("ask")
+    for (i = k; i > 0; i--) {
+        n = given[i]
+        about(n)
+        hole["operands"] = "(and-then ! (load ! (from ! (stop !)) (look ! @_" cell[n] "@ refl)) " hole["operands"] ")"
+        if (kind[n] == "slice") hole["owner"] = of("owner", cell[n])
+        if (kind[n] != "value") hole["n"] = value[n]
+        run("ask " (kind[n] == "value" ? "value" : --uses[value[n]] > 0 ? "lent again" : "lent"))
+    }
+    run("no tokens")
+    run_back("add token", refs)
+    for (i = 1; i <= clauses[fn]; i++) {
+        if (bound[fn, i] != "_") as[bound[fn, i]] = result
+        said[result, i] = said_by(fn, i)
+    }
+    have(result, "value", gives[fn], result, "u-" result, "is-" result, into)
+    about(result)
+    hole["r"] = result; hole["g"] = short[fn]; hole["how"] = how; hole["tokens"] = tokens(refs)
+    hole["to"] = "((" nest(of_each("κ-", refs)) ", " nest(of_each("q-", refs)) ", tt, " nest(values) ", " nest(machines) "), tt)"
+    hole["ending"] = hole["g"] ".ended " nest(of_each("κ-", refs)) " " nest(values)
+    hole["fact"] = said[result, 1]; hole["more"] = said[result, 2]
+    hole["facts"] = fill(clauses[fn] == 1 ? "raw (fact 𝓤 (<fact>))" : "(raw (fact 𝓤 (<fact>)) ⊛ raw (fact 𝓤 (<more>)))")
+    run("call")
+    run(clauses[fn] == 1 ? "hear" : "hear two")
+    if (!kept) run("nothing left")
+    for (i = 1; i <= kept; i++) { hole["n"] = value[given[i]]; run(kind[given[i]] == "mutslice" ? "left mutslice" : "left") }
+    run("back")
+    run_each("token", refs)
+    run("land")
+}
+
+# ---- a straight line: calls, each in a `let` of its own, and stores of a field of what a call gave into a `&mut` struct;
+# ---- the last statement, a call or a field, is the result
+
+# counts the cells, and how often a thing is passed on
+function read_straight(    i, k, n, word, list) {
+    statements = split(body[this], statement, / *; */)
+    for (i = 1; i <= statements; i++) {
+        word = statement[i]
+        if (i < statements ? word ~ /^[*][a-z0-9_]+ = [a-z0-9_]+[.][a-z0-9_]+$/ : word ~ /^[a-z0-9_]+[.][a-z0-9_]+$/) continue
+        k = sub(/^let [a-z0-9_]+ = /, "", word)
+        cells += k
+        if (k != (i < statements) || word !~ /^[a-z0-9_]+[(][a-z0-9_*, ]*[)]$/) fail("no walk is known over: " statement[i])
+        for (k = split(behind(word, "("), list, / *[,)] */); k > 0; k--) {
+            n = safe(list[k])
+            cells += (n ~ /^[*]/) + 2 * (kind[n] == "mutslice")
+            if (++uses[n] > 1 && kind[n] == "mutslice") fail("it passes " list[k] " on more than once")
+        }
+    }
+}
+
+function walk_straight(    i, word, result) {
+    margin = "          "
+    read_straight()
+    enter()
+    unpack()
+    cells = takes[this] + 1
+    for (i = 1; i <= statements; i++) {
+        word = statement[i]
+        hole["steps"] = hole["steps"] (i == 1 ? "" : ", ") "`" word "`"
+        if (word ~ /[(]/) {
+            result = sub(/^let /, "", word) ? safe(before(word, " = ")) : "r"
+            sub(/.* = /, "", word); sub(/[)]$/, "", word)
+            call(result, before(word, "("), behind(word, "("), i < statements ? cells++ : 0, "init")
+            if (i < statements) heard_before = "e-" result (heard_before == "" ? "" : ", ") heard_before
+        } else if (sub(/^[*]/, "", word)) {
+            store_field(safe(before(word, " = ")), behind(word, " = "))
+        } else {
+            about(result = read_field(word))
+            run("give")
+        }
+    }
+    leave(result, cells - 1, contract_of(result))
+}
+
+# f.name: a field of what a call gave, whose cell is spelled out first
+function read_field(word,    f, name, t, i, thing) {
+    f = safe(before(word, "."))
+    name = behind(word, ".")
+    t = type[f]
+    for (i = fields[t]; i > 0 && field[t, i] != name; i--) ;
+    if (!i) fail(f " has no field " name)
+    about(f)
+    if (!hole["top"]) run("spell")
+    hole["top"] = form["only"]
+    thing = f "." name
+    have(thing, "value", found(module_of(t), field_type[t, i]), "(" f " ." name ")", "", "is-" f "-" name, "")
+    machine[thing] = "(" machine[thing] ")"
+    from[thing] = f
+    hole["loaded"] = "(load ! (from ! (fld ! refl (stop !))) (look-in ! @_" cell[f] "@ (sub ! " i - 1 " refl (whole !))))"
+    hole["parts"] = "parts-" f " " turn_to(i - 1)
+    about(thing)
+    run("part")
+    return thing
+}
+
+# puts a field where a reference points, which is shut then
+function store_field(n, word,    thing) {
+    thing = read_field(word)
+    if (kind[n] != "mutref" || type[n] != type[thing]) fail("it stores " word " into *" n ", which is no `&mut` of that type")
+    hole["into"] = n; hole["to"] = "_" cell[n]
+    run("store")
+    left[n] = value[thing]
+    stored[n] = thing
+}
+
+# the proof of the door's contract, from what the calls said
+function contract_of(result,    i, out) {
+    own_words()
+    for (i = 1; i <= clauses[this]; i++) out = out (i == 1 ? "" : ", ") clause_of(said_by(this, i), result)
+    if (laws_used < laws_given) fail("its line has a law that it does not need: " law[laws_given])
+    return out
+}
+
+# in the door's own words each parameter is itself
+function own_words(    i) {
+    split("", as)
+    for (i = 1; i <= takes[this]; i++) { as[takes[this, i]] = name_of[i]; as[takes[this, i] ".exit"] = name_of[i] ".exit" }
+    for (i = 1; i <= clauses[this]; i++) if (bound[this, i] != "_") as[bound[this, i]] = "r"
+}
+
+# the proof of one clause: what a call said of the same thing and, unless it said the same, a law
+function clause_of(text, result,    thing, name, i, got, why) {
+    thing = before(text, " ≡ ") == "r" ? result : before(text, " ≡ ")
+    if (sub(/[.]exit$/, "", thing)) thing = thing in stored ? stored[thing] : left[thing]
+    if (thing in from) {
+        name = " ." behind(thing, ".")
+        got = behind(said[from[thing], 1], " ≡ ") name
+        why = "ap (λ (y : " meaning(type[from[thing]]) "). y" name ") e-" from[thing]
+    } else {
+        i = before(said["r", 1], " ≡ ") == thing ? 1 : 2
+        if (!(("r", i) in said) || before(said["r", i], " ≡ ") != thing) fail("no call says what its contract does: " text)
+        got = behind(said["r", i], " ≡ ")
+        why = i == 1 ? "e-r" : "e2-r"
+    }
+    text = behind(text, " ≡ ")
+    if (got == text) return why
+    if (laws_used == laws_given) fail("its line needs a law that leads from `" got "` to `" text "`")
+    text = worded(law[++laws_used], "")
+    return why " ∙ " (heard_before == "" ? text : "rw " (heard_before ~ /,/ ? "(" heard_before ")" : heard_before) " (" text ")")
+}
+
+# ---- a loop over a slice: let mut S = FROM; let mut I = 0; while I < L.len() { S = G(.., S, .., L[I], ..); I += 1; } S
+
+# its names, the element that is past the end, and how many bytes an element has
+function read_loop(    list, t, i) {
+    split(body[this], list, /let mut | = |; |while | < |[.]len[(][)] [{] |[(]|[)]/)
+    state = list[2]; counter = list[5]; over = safe(list[9]); loop_call = list[11]; loop_arguments = list[12]
+    element = list[9] "[" counter "]"
+    hole["from"] = safe(list[3])
+    if (body[this] != "let mut " state " = " list[3] "; let mut " counter " = 0; while " counter " < " list[9] ".len() { " state " = " loop_call "(" loop_arguments "); " counter " += 1; } " state)
+        fail("its loop is not of the shape that is known: " body[this])
+    t = type[over]
+    if (lent != over || kind[over] != "slice" || kind[hole["from"]] != "value" || sort[t] != "struct") fail("its loop is not over its one slice of structs, from a value on")
+    for (i = 1; i <= fields[t]; i++) {
+        if (field_type[t, i] != field_type[t, 1] || !(field_type[t, 1] in width)) fail(t " has not numbers of one width alone")
+        hole["blank"] = hole["blank"] (i == 1 ? "" : "; ") field[t, i] " = 0"
+    }
+    hole["bytes"] = fields[t] * substr(width[field_type[t, 1]], 2) / 8
+    if (hole["bytes"] == 1) fail(t " has one byte alone")
+    if (laws_given != 3) fail("its line needs three laws: of the start, of one more, of the end")
+}
+
+# the cells: the result, the parameters, the state, the counter, a number, a test, a place, an element
+function set_cells(n, s, t,    i, k, its_mir, holds, env, head) {
+    cells = n + 7
+    split("state counter number test place element", names_of_cells, " ")
+    for (i = 1; i <= 6; i++) hole["in-" names_of_cells[i]] = "_" n + i
+    hole["in-from"] = "_" cell[hole["from"]]; hole["in-list"] = "_" cell[over]; hole["l-test"] = "l" n + 4; hole["l-place"] = "l" n + 5
+    have(state, "value", s, "(t .s)", "(t .v)", "(t .held)", n + 1)
+    have(element, "value", t, "(elem (t .i))", "", "is-elem", n + 6)
+    at_head = ""
+    for (i = 0; i < cells; i++) {
+        k = i - n
+        its_mir = i == 0 || k == 1 ? mir(s) : k < 1 ? (name_of[i] == over ? "slice" : mir(type[name_of[i]])) : k < 4 ? mir("usize") : k == 4 ? "tyBool" : k == 5 ? "tyPtr" : mir(t)
+        holds = i == 0 || k > 2 ? "" : k < 1 ? machine[name_of[i]] : k == 1 ? "t .v" : "vint w64 (t .i)"
+        env = joined(env, "(" its_mir ", l" i ")")
+        head = "|‵ (" (holds == "" ? "froom " its_mir " l" i " 0" : "fat fullShare " its_mir " l" i " 0 (" holds ")") ")|‵ (fdies " its_mir " l" i ")" head
+        hole["cells"] = hole["cells"] (i == 0 ? "" : " ") "l" i
+        at_head = " _" i " d" i at_head
+    }
+    at_head = "bor lft-" over at_head
+    hole["env"] = row_of(env); hole["at-head"] = row_of("‵ Shr|‵ (flft κ-" over " q-" over ")" head)
+}
+
+function walk_loop(    n, s, i) {
+    read_loop()
+    n = takes[this]
+    s = type[hole["from"]]
+    set_cells(n, s, type[over])
+    own_words()
+    for (i = 1; i <= 3; i++) law[i] = worded(law[i], "")
+    hole["law-start"] = law[1]; hole["law-more"] = law[2]; hole["list"] = over; hole["start"] = machine[hole["from"]]
+    hole["state"] = meaning(s); hole["state-row"] = row(s); hole["list-binds"] = spaced(each("list")); hole["now"] = "Now " spaced(each("name"))
+    hole["fold"] = behind(said_by(this, 1), " ≡ ")
+    as[takes[this, cell[over]]] = "(dropL i " over ")"; as[takes[this, cell[hole["from"]]]] = "s"
+    hole["folded"] = behind(said_by(this, 1), " ≡ ")
+    hole["steps"] = "a loop of `" loop_call "(" loop_arguments ")`"
+    of("name", cell[over])
+    hole["top"] = fill(form["state"])
+
+    margin = "            "
+    begin_turn("lt-ltb (t .i) (length " over ") less")
+    about(element)
+    run("turn")
+    call("r", loop_call, loop_arguments, n + 1, "store")
+    run("go on")
+    for (i = cells - 1; i > n + 2; i--) { hole["i"] = i; run("forget") }
+    front("bor lft-" over)
+    new_line()
+    hole["more"] = walk inline("turned") closed()
+
+    have(state, "value", s, "(t .s)", "(t .v)", "(t .held)", n + 1)
+    begin_turn("le-ltb (t .i) (length " over ") over")
+    about(state)
+    run("leave")
+    leave(state, n + 4, "sym (t .same ∙ " law[3] " (t .s) " over " (t .i) over)")
+    hole["ends"] = walk
+    of("name", cell[over])
+    hole["before"] = fill(form["loop"])
+
+    margin = "          "
+    size = 0
+    enter()
+    about(hole["from"])
+    run("begin")
+    unpack()
+    run("begun")
+    keep(at_head)
+    walk = walk "looped " hole["cells"] closed()
+}
+
+# at the loop's head, up to the test, whose result is known
+function begin_turn(tested) { size = 0; push(at_head); walk = margin; hole["tested"] = tested; run("test"); new_line() }
+
+# ---- the whole proof
+
+# the library that a crate's specs or proofs are in, and where a function or a type has its proofs
+function library(crate, what) { return "Rattle·" crate (crate == "host" ? "·" what : "") "." what }
+function proofs_of(name) { return library(part_of(name, 1), "proofs") "." part_of(name, 2) "." part_of(name, 3) }
+function key_of(fn) { gsub(/::/, "·", fn); gsub(/_/, "-", fn); return fn }
+
+# the `use` lines: of each module the names that are in a text
+function imports_of(text,    list, k, i, j, used, names, name, out) {
+    for (k = split(text, list, /[ \n(),;{}]+/); k > 0; k--) { used[list[k]] = 1; if (index(list[k], ".") > 1) used[before(list[k], ".")] = 1 }
+    for (i = 1; i <= imported; i++) {
+        k = split(imports[i], list, " ")
+        names = ""
+        for (j = 2; j <= k; j++) {
+            name = list[j]
+            gsub(/.*:|_|^=/, "", name)
+            if (name in used && list[j] ~ /^=/) out = out "use " list[1] " as " name "\n"
+            else if (name in used) names = joined(names, list[j])
+        }
+        gsub(/:/, " as ", names)
+        if (names != "") out = out "use " list[1] ".{" spaced(names, ", ") "}\n"
+    }
+    for (i = 1; i <= modules_named; i++) out = out "use " modules[i] ".{" spaced(names_from[modules[i]], ", ") "}\n"
+    for (i = 1; i <= types_named; i++) {
+        name = meaning(types[i])
+        if (name in used) out = out "use " library(part_of(types[i], 1), "specs") ".declared." part_of(types[i], 2) "." name ".{" name "}\n"
+        if ("D-" name in used) out = out "use " proofs_of(types[i]) " as D-" name "\n"
+        if ("D-" name "′" in used) out = out "use " proofs_of(types[i]) ".Laws as D-" name "′\n"
+    }
+    split(law_file, list, /[\/.]/)
+    return out (law_names == "" ? "" : "use " library(list[2], "proofs") "." list[4] ".{" spaced(law_names, ", ") "}\n")
+}
+
+# puts all together
+function write_proof(    i, uses_of_callees) {
+    hole["walk"] = walk; hole["door"] = this; hole["dashed"] = key_of(part_of(this, 3))
+    hole["stays"] = nest(each("stay")); hole["all-go"] = nest(each("goes")); hole["all-vals"] = nest(each("vals")); hole["all-tell"] = nest(each("tells"))
+    hole["lfts"] = nest(of_each("κ-", lent)); hole["shares"] = nest(of_each("q-", lent))
+    hole["arguments"] = nest(each("argument")); hole["machines"] = row_of(each("machine")); hole["machine-lists"] = nest(each("machine-list"))
+    hole["binds"] = spaced(each("bind") "|" each("bind-is")); hole["gives"] = spaced(each("give") "|" each("give-is"))
+    for (i = 1; i <= takes[this]; i++) if (kind[name_of[i]] != "value") { hole["referred"] = of("referred", i); hole["refs"] = hole["refs"] fill(form["reference"]) }
+    for (i = 1; i <= callees; i++) {
+        hole["g"] = "g" i; hole["key"] = key_of(called[i]); hole["module"] = proofs_of(called[i])
+        uses_of_callees = uses_of_callees fill(form["callee"])
+        hole["contracts"] = hole["contracts"] fill(form["contract"]); hole["knowns"] = hole["knowns"] inline("known"); hole["cited"] = hole["cited"] inline("cited")
+    }
+    hole["key"] = key_of(this); hole["module"] = proofs_of(this)
+    hole["imports"] = imports_of(fill(form["proof"])) uses_of_callees fill(form["door"])
+    print inline("proof")
+}
+
+BEGIN {
+    for (i = split("u8 w8 u16 w16 u32 w32 u64 w64 usize w64", list, " "); i > 0; i -= 2) width[list[i - 1]] = list[i]
+    for (i = split("x at r t i s v y p a f e us vs bound walk goes meets stayed only none slice elem code stated run now name ptr start turns more ends looped", list, " "); i > 0; i--) walk_has[list[i]] = "here"
+    if (door !~ /^[a-z_]+::[a-z0-9_]+$/) fail("this is no MODULE::FUNCTION")
+    hole["imports"] = hole["top"] = hole["before"] = ""
+    read_forms()
+    read_line()
+    this = "host::" door
+    read_module(module_of(this))
+    if (!(this in head)) fail("crates/host/src has no such function")
+    read_head(this)
+    read_parameters()
+    if (body[this] ~ /while /) walk_loop()
+    else walk_straight()
+    write_proof()
+}
