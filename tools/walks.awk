@@ -6,7 +6,7 @@
 function fail(text) { print "tools/walks: " door ": " text > "/dev/stderr"; exit 2 }
 function before(text, mark) { return substr(text, 1, index(text, mark) - 1) }
 function behind(text, mark) { return substr(text, index(text, mark) + length(mark)) }
-function joined(list, item) { return list == "" ? item : list "|" item }
+function joined(list, item) { return list == "" || item == "" ? list item : list "|" item }
 function spaced(list, between) { gsub(/[|]+/, between == "" ? " " : between, list); return list }
 
 # ---- the sources
@@ -23,7 +23,7 @@ function read_module(at,    path, line, got, inside, name, list, i) {
             split(line, list, /use |::|;/)
             home[at, list[4]] = (list[2] == "crate" ? part_of(at, 1) : list[2]) "::" list[3]
         } else if (line ~ /^ghost use .*[{].*[}];/) {
-            split(line, list, /^ghost use |[.][{]|[}];/)
+            split(line, list, /ghost use |[.][{]|[}];/)
             name = list[2]
             for (i = split(list[3], list, /, */); i > 0; i--) defined[at, list[i]] = name
         } else if (match(line, /^(pub([(]crate[)])? )?(struct|enum|fn) [A-Za-z0-9_]+/)) {
@@ -62,14 +62,14 @@ function found(at, name) {
 }
 
 # reads a function's head: its parameters with their kinds, what it gives, and its contract, a clause for each `ensures`
-function read_head(fn,    at, text, list, pair, k, i) {
+function read_head(fn,    at, text, list, k, i) {
     if (fn in gives) return
     at = module_of(fn)
     text = head[fn]
     if (sort[fn] != "fn") fail(fn " is no function")
     if (text ~ / requires /) fail(fn " asks something of its caller")
     k = split(substr(text, 2, index(text, ")") - 2), list, ",")
-    for (i = 1; i <= k; i++) if (split(list[i], pair, /^ +|: /) > 1) read_parameter(fn, at, pair[1] == "" ? pair[2] : pair[1], behind(list[i], ": "))
+    for (i = 1; i <= k; i++) if (index(list[i], ": ")) read_parameter(fn, at, before(list[i], ": "), behind(list[i], ": "))
     if (!match(text, /[)] -> [A-Za-z0-9_]+ /)) fail(fn " gives nothing that a walk can follow")
     gives[fn] = found(at, substr(text, RSTART + 5, RLENGTH - 6))
     clauses[fn] = split(text, list, / +ensures /) - 1
@@ -85,34 +85,27 @@ function read_head(fn,    at, text, list, pair, k, i) {
 # a parameter: its name, its kind, and the type of what it is or lends
 function read_parameter(fn, at, name, text,    i) {
     i = ++takes[fn]
+    sub(/^ +/, "", name)
     takes[fn, i] = name
     takes_as[fn, i] = text ~ /^&mut \[/ ? "mutslice" : text ~ /^&\[/ ? "slice" : text ~ /^&mut / ? "mutref" : text ~ /^&/ ? "ref" : "value"
     gsub(/^&(mut )?\[?|\]?$/, "", text)
     takes_type[fn, i] = found(at, text)
 }
 
-# a text with each stretch of a pattern replaced by its word of that number
-function replaced(text, pattern, number, ending,    list) {
-    while (match(text, pattern)) {
-        split(substr(text, RSTART, RLENGTH), list, " ")
-        text = substr(text, 1, RSTART - 1) list[number] ending substr(text, RSTART + RLENGTH)
-    }
-    return text
-}
-
 # a text in the walk's words: as[] has what each name stands for; the definitions of a module that it names are imported
-function worded(text, at,    list, k, i, out) {
-    gsub(/[(),]/, " & ", text); gsub(/ +/, " ", text)
-    text = replaced(text, "[(] now [(] [a-z0-9_]+ [.]entry [)] [)]", 4, "")
-    text = replaced(text, "now [(] [a-z0-9_]+ [.]entry [)]", 3, "")
-    text = replaced(text, "now [(] [a-z0-9_]+ [.]exit [)]", 3, ".exit")
+function worded(text, at,    list, k, i, word, out) {
+    gsub(/[(),]/, " & ", text)
     k = split(text, list, " ")
     for (i = 1; i <= k; i++) {
-        out = out " " (list[i] in as ? as[list[i]] : list[i])
-        import_name(list[i], at)
-        import_name("_" list[i] "_", at)
+        word = list[i]
+        if (word == "now" && list[i + 3] ~ /^[.](entry|exit)$/) { word = list[i + 2] (list[i + 3] == ".exit" ? ".exit" : ""); i += 4 }
+        import_name(word, at)
+        import_name("_" word "_", at)
+        out = out " " (word in as ? as[word] : word)
     }
     gsub(/[(] /, "(", out); gsub(/ [)]/, ")", out); gsub(/ ,/, ",", out)
+    # brackets around one word, or around brackets, are not needed
+    while (match(out, /[(]([^ ()]+|[(][^()]*[)])[)]/)) out = substr(out, 1, RSTART - 1) substr(out, RSTART + 1, RLENGTH - 2) substr(out, RSTART + RLENGTH)
     return substr(out, 2)
 }
 function import_name(name, at,    module) {
@@ -201,10 +194,10 @@ function meaning(t) { if (!(t in width) && !(t in is_named)) { is_named[t] = 1; 
 function row(t) { return t in width ? t : "D-" meaning(t) ".the-row" }
 function mir(t) { return t in width ? "(tyInt " width[t] ")" : "D-" meaning(t) "′.mir" }
 
-# a law of a type; `of` is what its module calls the part that it takes
-function law_of(t, what, of) {
+# a law of a type, and what it takes of the type's laws
+function law_of(t, what, taken) {
     if (t in width) return what == "val" ? "vint " width[t] : "uint-" what (what ~ /makes|lawful/ ? " 𝓤 H A W " : " ") width[t]
-    return (sort[t] == "struct" ? "LL." : "EL.") what " D-" meaning(t) ".the-type D-" meaning(t) "′.the-" (of == "" ? "laws" : of)
+    return (sort[t] == "struct" ? "LL." : "EL.") what " D-" meaning(t) ".the-type D-" meaning(t) "′.the-" (taken == "" ? "laws" : taken)
 }
 
 # a thing: its kind and type, its value, its machine value, the proof that they belong together, and the number of its cell
@@ -217,7 +210,7 @@ function have(name, its_kind, t, its_value, its_machine, its_proof, its_cell) {
 # what stands in the forms for a thing and the laws of its type
 function about(name,    t) {
     t = type[name]
-    hole["n"] = name; sub(/^[*&]/, "", hole["n"])
+    hole["n"] = kind[name] == "value" ? name : value[name]; sub(/^[*]/, "", hole["n"])
     hole["value"] = value[name]; hole["machine"] = machine[name]; hole["is"] = proof[name]; hole["c"] = cell[name]
     hole["row"] = row(t); hole["meaning"] = meaning(t); hole["mir"] = mir(t)
     hole["vals"] = law_of(t, "vals"); hole["tells"] = law_of(t, "tells"); hole["val"] = law_of(t, "val") " " value[name]
@@ -239,6 +232,7 @@ function read_parameters(    i, n) {
         if (kind[n] == "value") continue
         lifetime[n] = hole["lifetimes"]++
         lent = joined(lent, n)
+        last_lent = n
         machine[n] = of("machine", i)
     }
     if (lent == "") fail("it is lent nothing, and needs no walk")
@@ -292,36 +286,45 @@ function step(text,    part, name) {
     take(part[2]); push(part[3])
 }
 
-# the same piece for each of some parameters, from the first on, or from the last
-function run_each(name, names,    list, k, i) { k = split(names, list, "|"); for (i = 1; i <= k; i++) { hole["n"] = list[i]; run(name) } }
-function run_back(name, names,    list, k) { for (k = split(names, list, "|"); k > 0; k--) { hole["n"] = list[k]; run(name) } }
+# takes the tokens of some references out of T, the first first, or puts them together to T
+function part_tokens(names,    list, k, i) { k = split(names, list, "|"); for (i = 1; i <= k; i++) step("split ! | T | lft-" list[i] " T") }
+function join_tokens(names,    list, k) {
+    step("nothing ! | | T")
+    for (k = split(names, list, "|"); k > 0; k--) step("join ! | lft-" list[k] " T | T")
+}
 
 # from the call of the door to its first statement
 function enter(    i) {
-    hole["machines"] = row_of(each("machine"))
     walk = margin "qed W (" tokens(lent) " ∷ ‵ (owns (" row_of(each("owner")) ") x at) ∷ []) ∵ "
-    run("enter")
-    for (i = 0; i < cells; i++) { hole["i"] = i; run("cell") }
-    run("cells")
-    for (i = 1; i <= takes[this]; i++) { hole["passed"] = of("passed", i); run("pass") }
-    run("passed")
+    step("enter ! (𝓣 .C) (𝓣 .Λ) code.function (" row_of(each("machine")) ") _ | | T R")
+    new_line()
+    for (i = 0; i < cells; i++) step("alloc1 ! (λ l" i ". | | _" i " d" i)
+    step("alloc0 !"); step("params1 !")
+    new_line()
+    for (i = 1; i <= takes[this]; i++) step("pass1 ! (init ! @_" i "@ refl (" of("passed", i) "))")
+    step("pass0 !")
+    new_line()
 }
 
 # what each reference owns, and its lifetime's token
 function unpack(    i, n) {
-    for (i = 1; n != last_of(lent); i++) { n = name_of[i]; about(n); run("unpack " kind[n]) }
-    run_each("token", lent)
+    for (i = 1; n != last_lent; i++) {
+        n = hole["n"] = name_of[i]
+        step("fsplit ! | R | own-<n> R")
+        if (kind[n] !~ /slice$/) run("unpack " kind[n])
+    }
+    part_tokens(lent)
     new_line()
 }
-function last_of(list) { sub(/.*[|]/, "", list); return list }
 
 # returns what is in the first cell, frees all, and shows the contract of the result; the cells up to one hold something
 function leave(result, top, why,    i, n, k, lasts, fits, kept) {
-    run("return")
-    for (i = top; i >= 0; i--) { hole["i"] = i; run("forget") }
+    step("returns ! (look ! @_0@ refl)")
+    for (i = top; i >= 0; i--) step("forget ! @_" i "@ refl")
     new_line()
-    for (i = 0; i < cells; i++) { hole["i"] = i; run("free") }
-    run("freed")
+    for (i = 0; i < cells; i++) step("free1 ! | _" i " d" i " |")
+    step("free0 !")
+    new_line()
     for (i = 1; i <= takes[this]; i++) {
         n = name_of[i]
         k = kind[n]
@@ -333,8 +336,7 @@ function leave(result, top, why,    i, n, k, lasts, fits, kept) {
     about(result)
     hole["lasts"] = nest(lasts); hole["fits"] = nest(fits); hole["why"] = why; hole["says"] = clauses[this] == 2 ? "says-both" : "says"
     run("exit")
-    run("no tokens")
-    run_back("add token", lent)
+    join_tokens(lent)
     run("exit own")
     for (i = takes[this]; i > 0; i--) { about(name_of[i]); run("exit " (kind[name_of[i]] ~ /^mut/ ? kind[name_of[i]] : "dropped")) }
     about(result)
@@ -349,7 +351,7 @@ function ready(word,    n, thing) {
     n = safe(word)
     sub(/^[*]/, "", n)
     n = safe(n)
-    if (!(n in kind)) fail("it passes " word " on, which is no parameter and no local")
+    if (type[n] == "") fail("it passes " word " on, which is no parameter and no local")
     if ((word ~ /^[*]/) != (kind[n] ~ /ref$/)) fail("it passes " word " on, and a walk knows only that of a copy out of a reference")
     hole["source"] = "_" cell[n]
     if (word ~ /^[*]/) {
@@ -392,11 +394,9 @@ function call(result, word, arguments, into, how,    fn, list, k, i, n, given, r
         about(n)
         hole["operands"] = "(and-then ! (load ! (from ! (stop !)) (look ! @_" cell[n] "@ refl)) " hole["operands"] ")"
         if (kind[n] == "slice") hole["owner"] = of("owner", cell[n])
-        if (kind[n] != "value") hole["n"] = value[n]
         run("ask " (kind[n] == "value" ? "value" : --uses[value[n]] > 0 ? "lent again" : "lent"))
     }
-    run("no tokens")
-    run_back("add token", refs)
+    join_tokens(refs)
     for (i = 1; i <= clauses[fn]; i++) {
         if (bound[fn, i] != "_") as[bound[fn, i]] = result
         said[result, i] = said_by(fn, i)
@@ -409,11 +409,13 @@ function call(result, word, arguments, into, how,    fn, list, k, i, n, given, r
     hole["fact"] = said[result, 1]; hole["more"] = said[result, 2]
     hole["facts"] = fill(clauses[fn] == 1 ? "raw (fact 𝓤 (<fact>))" : "(raw (fact 𝓤 (<fact>)) ⊛ raw (fact 𝓤 (<more>)))")
     run("call")
-    run(clauses[fn] == 1 ? "hear" : "hear two")
-    if (!kept) run("nothing left")
-    for (i = 1; i <= kept; i++) { hole["n"] = value[given[i]]; run(kind[given[i]] == "mutslice" ? "left mutslice" : "left") }
-    run("back")
-    run_each("token", refs)
+    if (clauses[fn] == 2) step("split ! | said | said more")
+    step("heard ! (<fact>) (λ e-<r>. | said |")
+    if (clauses[fn] == 2) step("heard ! (<more>) (λ e2-<r>. | more |")
+    if (!kept) step("drop ! | lasts |")
+    for (i = 1; i <= kept; i++) { hole["n"] = value[given[i]]; run(kind[given[i]] == "mutslice" ? "left" : "not left") }
+    step("split ! | own-<r> | T own-<r>")
+    part_tokens(refs)
     run("land")
 }
 
@@ -450,7 +452,7 @@ function walk_straight(    i, word, result) {
             result = sub(/^let /, "", word) ? safe(before(word, " = ")) : "r"
             sub(/.* = /, "", word); sub(/[)]$/, "", word)
             call(result, before(word, "("), behind(word, "("), i < statements ? cells++ : 0, "init")
-            if (i < statements) heard_before = "e-" result (heard_before == "" ? "" : ", ") heard_before
+            if (i < statements) results = joined(result, results)
         } else if (sub(/^[*]/, "", word)) {
             store_field(safe(before(word, " = ")), behind(word, " = "))
         } else {
@@ -469,7 +471,8 @@ function read_field(word,    f, name, t, i, thing) {
     for (i = fields[t]; i > 0 && field[t, i] != name; i--) ;
     if (!i) fail(f " has no field " name)
     about(f)
-    if (!hole["top"]) run("spell")
+    if (!(f in spelled)) run("spell")
+    spelled[f] = 1
     hole["top"] = form["only"]
     thing = f "." name
     have(thing, "value", found(module_of(t), field_type[t, i]), "(" f " ." name ")", "", "is-" f "-" name, "")
@@ -494,8 +497,7 @@ function store_field(n, word,    thing) {
 
 # the proof of the door's contract, from what the calls said
 function contract_of(result,    i, out) {
-    own_words()
-    for (i = 1; i <= clauses[this]; i++) out = out (i == 1 ? "" : ", ") clause_of(said_by(this, i), result)
+    for (i = 1; i <= clauses[this]; i++) { own_words(); out = out (i == 1 ? "" : ", ") clause_of(said_by(this, i), result) }
     if (laws_used < laws_given) fail("its line has a law that it does not need: " law[laws_given])
     return out
 }
@@ -507,8 +509,9 @@ function own_words(    i) {
     for (i = 1; i <= clauses[this]; i++) if (bound[this, i] != "_") as[bound[this, i]] = "r"
 }
 
-# the proof of one clause: what a call said of the same thing and, unless it said the same, a law
-function clause_of(text, result,    thing, name, i, got, why) {
+# the proof of one clause: what a call said of the same thing; unless that is the same, with what the calls before it said
+# put in, or by a law
+function clause_of(text, result,    thing, name, i, k, list, got, why) {
     thing = before(text, " ≡ ") == "r" ? result : before(text, " ≡ ")
     if (sub(/[.]exit$/, "", thing)) thing = thing in stored ? stored[thing] : left[thing]
     if (thing in from) {
@@ -523,21 +526,25 @@ function clause_of(text, result,    thing, name, i, got, why) {
     }
     text = behind(text, " ≡ ")
     if (got == text) return why
+    k = split(results, list, "|")
+    if (k > 0) why = why " ∙ rw " (k > 1 ? "(" : "") spaced(of_each("e-", results), ", ") (k > 1 ? ")" : "")
+    for (i = 1; i <= k; i++) got = replaced_word(got, list[i], behind(said[list[i], 1], " ≡ "))
+    if (got == text && k > 0) return why
     if (laws_used == laws_given) fail("its line needs a law that leads from `" got "` to `" text "`")
-    text = worded(law[++laws_used], "")
-    return why " ∙ " (heard_before == "" ? text : "rw " (heard_before ~ /,/ ? "(" heard_before ")" : heard_before) " (" text ")")
+    own_words()
+    return why (k > 0 ? " (" worded(law[++laws_used], "") ")" : " ∙ " worded(law[++laws_used], ""))
 }
+function replaced_word(text, word, by) { split("", as); as[word] = "(" by ")"; return worded(text, "") }
 
 # ---- a loop over a slice: let mut S = FROM; let mut I = 0; while I < L.len() { S = G(.., S, .., L[I], ..); I += 1; } S
 
 # its names, the element that is past the end, and how many bytes an element has
 function read_loop(    list, t, i) {
     split(body[this], list, /let mut | = |; |while | < |[.]len[(][)] [{] |[(]|[)]/)
-    state = list[2]; counter = list[5]; over = safe(list[9]); loop_call = list[11]; loop_arguments = list[12]
-    element = list[9] "[" counter "]"
-    hole["from"] = safe(list[3])
-    if (body[this] != "let mut " state " = " list[3] "; let mut " counter " = 0; while " counter " < " list[9] ".len() { " state " = " loop_call "(" loop_arguments "); " counter " += 1; } " state)
-        fail("its loop is not of the shape that is known: " body[this])
+    state = safe(list[2]); hole["from"] = safe(list[3]); over = safe(list[9]); element = safe(list[9] "[" list[5] "]")
+    loop_call = list[11]; loop_arguments = list[12]
+    if (body[this] != "let mut " list[2] " = " list[3] "; let mut " list[5] " = 0; while " list[5] " < " list[9] ".len() { " \
+        list[2] " = " loop_call "(" loop_arguments "); " list[5] " += 1; } " list[2]) fail("its loop is not of the shape that is known: " body[this])
     t = type[over]
     if (lent != over || kind[over] != "slice" || kind[hole["from"]] != "value" || sort[t] != "struct") fail("its loop is not over its one slice of structs, from a value on")
     for (i = 1; i <= fields[t]; i++) {
@@ -593,7 +600,7 @@ function walk_loop(    n, s, i) {
     run("turn")
     call("r", loop_call, loop_arguments, n + 1, "store")
     run("go on")
-    for (i = cells - 1; i > n + 2; i--) { hole["i"] = i; run("forget") }
+    for (i = cells - 1; i > n + 2; i--) step("forget ! @_" i "@ refl")
     front("bor lft-" over)
     new_line()
     hole["more"] = walk inline("turned") closed()
@@ -674,7 +681,7 @@ function write_proof(    i, uses_of_callees) {
 
 BEGIN {
     for (i = split("u8 w8 u16 w16 u32 w32 u64 w64 usize w64", list, " "); i > 0; i -= 2) width[list[i - 1]] = list[i]
-    for (i = split("x at r t i s v y p a f e us vs bound walk goes meets stayed only none slice elem code stated run now name ptr start turns more ends looped", list, " "); i > 0; i--) walk_has[list[i]] = "here"
+    for (i = split("x at r t i s v y p a f e us vs bound walk goes meets stayed only none slice elem code stated run now name ptr start turns more ends looped tt rw omega search simp absurd record module abbrev unfolding data where", list, " "); i > 0; i--) walk_has[list[i]] = "here"
     if (door !~ /^[a-z_]+::[a-z0-9_]+$/) fail("this is no MODULE::FUNCTION")
     hole["imports"] = hole["top"] = hole["before"] = ""
     read_forms()
