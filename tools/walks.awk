@@ -99,9 +99,10 @@ function worded(text, at,    list, k, i, word, out) {
     for (i = 1; i <= k; i++) {
         word = list[i]
         if (word == "now" && list[i + 3] ~ /^[.](entry|exit)$/) { word = list[i + 2] (list[i + 3] == ".exit" ? ".exit" : ""); i += 4 }
+        out = out " " (word in as ? as[word] : word)
+        if (word in as) continue
         import_name(word, at)
         import_name("_" word "_", at)
-        out = out " " (word in as ? as[word] : word)
     }
     gsub(/[(] /, "(", out); gsub(/ [)]/, ")", out); gsub(/ ,/, ",", out)
     # brackets around one word, or around brackets, are not needed
@@ -113,8 +114,9 @@ function import_name(name, at,    module) {
     module = defined[at, name]
     sub(/·specs[.]specs/, ".specs", module)
     if (name in walk_has && walk_has[name] != module) fail("a contract has " name " of " module ", a name that the walk has itself")
-    if (!(module in names_from) && !(name in walk_has)) modules[++modules_named] = module
-    if (name in walk_has || index("|" names_from[module] "|", "|" name "|")) return
+    if (name in walk_has || (module, name) in is_imported) return
+    is_imported[module, name] = 1
+    if (!(module in names_from)) modules[++modules_named] = module
     names_from[module] = joined(names_from[module], name)
 }
 
@@ -132,7 +134,8 @@ function read_line(    path, line, list, got, k, i) {
         k = split(line, list, " ")
         if (line ~ /^#/ || list[1] != door) continue
         if (got++) fail("it has two lines in " path)
-        if (k > 1 && line !~ /^[^ ]+ +by [^ ].* of [a-z_]+\/proofs\/[A-Za-z]+[.]antt$/) fail("its line is neither NAME nor NAME by LAW, .. of CRATE/proofs/FILE.antt: " line)
+        if (k > 1 && line !~ /^[^ ]+ +by [^ ].* of [a-z_]+\/proofs\/[A-Za-z]+[.]antt$/)
+            fail("its line is neither NAME nor NAME by LAW, .. of CRATE/proofs/FILE.antt: " line)
         law_file = "crates/" list[k]
         sub(/^[^ ]+ *(by )?/, "", line); sub(/ of [^ ]*$/, "", line)
         laws_given = split(line, law, / *, */)
@@ -334,7 +337,7 @@ function leave(result, top, why,    i, n, k, lasts, fits, kept) {
     }
     keep(kept)
     about(result)
-    hole["lasts"] = nest(lasts); hole["fits"] = nest(fits); hole["why"] = why; hole["says"] = clauses[this] == 2 ? "says-both" : "says"
+    hole["lasts"] = nest(lasts); hole["fits"] = nest(fits); hole["why"] = why ~ / / ? "(" why ")" : why; hole["says"] = clauses[this] == 2 ? "says-both" : "says"
     run("exit")
     join_tokens(lent)
     run("exit own")
@@ -546,7 +549,8 @@ function read_loop(    list, t, i) {
     if (body[this] != "let mut " list[2] " = " list[3] "; let mut " list[5] " = 0; while " list[5] " < " list[9] ".len() { " \
         list[2] " = " loop_call "(" loop_arguments "); " list[5] " += 1; } " list[2]) fail("its loop is not of the shape that is known: " body[this])
     t = type[over]
-    if (lent != over || kind[over] != "slice" || kind[hole["from"]] != "value" || sort[t] != "struct") fail("its loop is not over its one slice of structs, from a value on")
+    if (lent != over || kind[over] != "slice" || kind[hole["from"]] != "value" || sort[t] != "struct")
+        fail("its loop is not over its one slice of structs, from a value on")
     for (i = 1; i <= fields[t]; i++) {
         if (field_type[t, i] != field_type[t, 1] || !(field_type[t, 1] in width)) fail(t " has not numbers of one width alone")
         hole["blank"] = hole["blank"] (i == 1 ? "" : "; ") field[t, i] " = 0"
@@ -567,7 +571,8 @@ function set_cells(n, s, t,    i, k, its_mir, holds, env, head) {
     at_head = ""
     for (i = 0; i < cells; i++) {
         k = i - n
-        its_mir = i == 0 || k == 1 ? mir(s) : k < 1 ? (name_of[i] == over ? "slice" : mir(type[name_of[i]])) : k < 4 ? mir("usize") : k == 4 ? "tyBool" : k == 5 ? "tyPtr" : mir(t)
+        its_mir = k == 6 ? mir(t) : k == 5 ? "tyPtr" : k == 4 ? "tyBool" : k > 1 ? mir("usize") : k == 1 || i == 0 ? mir(s) : \
+            name_of[i] == over ? "slice" : mir(type[name_of[i]])
         holds = i == 0 || k > 2 ? "" : k < 1 ? machine[name_of[i]] : k == 1 ? "t .v" : "vint w64 (t .i)"
         env = joined(env, "(" its_mir ", l" i ")")
         head = "|‵ (" (holds == "" ? "froom " its_mir " l" i " 0" : "fat fullShare " its_mir " l" i " 0 (" holds ")") ")|‵ (fdies " its_mir " l" i ")" head
@@ -681,7 +686,9 @@ function write_proof(    i, uses_of_callees) {
 
 BEGIN {
     for (i = split("u8 w8 u16 w16 u32 w32 u64 w64 usize w64", list, " "); i > 0; i -= 2) width[list[i - 1]] = list[i]
-    for (i = split("x at r t i s v y p a f e us vs bound walk goes meets stayed only none slice elem code stated run now name ptr start turns more ends looped tt rw omega search simp absurd record module abbrev unfolding data where", list, " "); i > 0; i--) walk_has[list[i]] = "here"
+    own = "x at r t i s v y p a f e us vs bound walk goes meets stayed only none slice elem code stated run now name ptr start turns more"
+    own = own " ends looped tt rw omega search simp absurd record module abbrev unfolding data where"
+    for (i = split(own, list, " "); i > 0; i--) walk_has[list[i]] = "the walk"
     if (door !~ /^[a-z_]+::[a-z0-9_]+$/) fail("this is no MODULE::FUNCTION")
     hole["imports"] = hole["top"] = hole["before"] = ""
     read_forms()

@@ -90,7 +90,7 @@ module _ {M : Type 1} (𝓤 : URA M) (H : Heap 𝓤) (A : Atoms 𝓤) (at-mem : 
           peeks ! D-Kept.the-row (Is D-Kept.the-row) (shows 𝓤 H A D-Kept.the-row) r (u-r ∷ []) (λ is-r. drop ! $ land ! (from ! (stop !)) (init ! 12 refl (EL.lawful D-Kept.the-type D-Kept′.the-laws 𝓤 H A W tt .typed r _ is-r .0)) $
           returns ! (look ! 12 refl) $ forget ! 4 refl $ forget ! 6 refl $ forget ! 8 refl $ forget ! 10 refl $ forget ! 12 refl $
           move ! (12 ∷ 13 ∷ []) $ free1 ! $ move ! (10 ∷ 11 ∷ []) $ free1 ! $ move ! (8 ∷ 9 ∷ []) $ free1 ! $ move ! (6 ∷ 7 ∷ []) $ free1 ! $ move ! (4 ∷ 5 ∷ []) $ free1 ! $ free0 ! $
-          keep ! (0 ∷ []) $ suffices ! _ (ends-at 𝓤 H A f.ended stayed (f.clauses 𝓤 H A at-mem run) W bound u-r r (tt, (tt, (tt, tt))) (tt, (tt, (tt, tt)))) $ says ! (e-r) $
+          keep ! (0 ∷ []) $ suffices ! _ (ends-at 𝓤 H A f.ended stayed (f.clauses 𝓤 H A at-mem run) W bound u-r r (tt, (tt, (tt, tt))) (tt, (tt, (tt, tt)))) $ says ! e-r $
           nothing ! $ move ! (1 ∷ 0 ∷ []) $ join ! $ frame ! $ nothing ! $ nothing ! $ fjoin ! $ nothing ! $ fjoin ! $ nothing ! $ fjoin ! $ frame ! $ owned ! D-Kept.the-row (Is D-Kept.the-row) (EL.makes D-Kept.the-type D-Kept′.the-plain 𝓤 H A) r _ is-r $ done !))))))))))))
 
     goes : AllGo 𝓤 H A W 1 (f.signature .params) (f.ended .kept) stayed

@@ -95,7 +95,7 @@ module _ {M : Type 1} (𝓤 : URA M) (H : Heap 𝓤) (A : Atoms 𝓤) (at-mem : 
           move ! (1 ∷ []) $ peeks ! D-Signed.the-row (Is D-Signed.the-row) (shows 𝓤 H A D-Signed.the-row) r (u-r ∷ []) (λ is-r. drop ! $ land ! (from ! (stop !)) (init ! 11 refl (EL.lawful D-Signed.the-type D-Signed′.the-laws 𝓤 H A W tt .typed r _ is-r .0)) $
           returns ! (look ! 11 refl) $ forget ! 5 refl $ forget ! 7 refl $ forget ! 9 refl $ forget ! 11 refl $
           move ! (11 ∷ 12 ∷ []) $ free1 ! $ move ! (9 ∷ 10 ∷ []) $ free1 ! $ move ! (7 ∷ 8 ∷ []) $ free1 ! $ move ! (5 ∷ 6 ∷ []) $ free1 ! $ free0 ! $
-          keep ! (1 ∷ 0 ∷ []) $ suffices ! _ (ends-at 𝓤 H A f.ended stayed (f.clauses 𝓤 H A at-mem run) W bound u-r r (tt, (tt, tt)) (tt, (tt, tt))) $ says ! (e-r) $
+          keep ! (1 ∷ 0 ∷ []) $ suffices ! _ (ends-at 𝓤 H A f.ended stayed (f.clauses 𝓤 H A at-mem run) W bound u-r r (tt, (tt, tt)) (tt, (tt, tt))) $ says ! e-r $
           nothing ! $ move ! (2 ∷ 0 ∷ []) $ join ! $ move ! (1 ∷ 0 ∷ []) $ join ! $ frame ! $ nothing ! $ nothing ! $ fjoin ! $ nothing ! $ fjoin ! $ frame ! $ owned ! D-Signed.the-row (Is D-Signed.the-row) (EL.makes D-Signed.the-type D-Signed′.the-plain 𝓤 H A) r _ is-r $ done !)))))))))))
 
     goes : AllGo 𝓤 H A W 2 (f.signature .params) (f.ended .kept) stayed
