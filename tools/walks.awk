@@ -672,7 +672,7 @@ function write_proof(    i, uses_of_callees) {
     hole["stays"] = nest(each("stay")); hole["all-go"] = nest(each("goes")); hole["all-vals"] = nest(each("vals")); hole["all-tell"] = nest(each("tells"))
     hole["lfts"] = nest(of_each("κ-", lent)); hole["shares"] = nest(of_each("q-", lent))
     hole["arguments"] = nest(each("argument")); hole["machines"] = row_of(each("machine")); hole["machine-lists"] = nest(each("machine-list"))
-    hole["binds"] = spaced(each("bind") "|" each("bind-is")); hole["gives"] = spaced(each("give") "|" each("give-is"))
+    hole["binds"] = spaced(joined(each("bind"), each("bind-is"))); hole["gives"] = spaced(joined(each("give"), each("give-is")))
     for (i = 1; i <= takes[this]; i++) if (kind[name_of[i]] != "value") { hole["referred"] = of("referred", i); hole["refs"] = hole["refs"] fill(form["reference"]) }
     for (i = 1; i <= callees; i++) {
         hole["g"] = "g" i; hole["key"] = key_of(called[i]); hole["module"] = proofs_of(called[i])
