@@ -51,10 +51,10 @@ use Rattle.sheet.specs.declared.sheet.Sheet.{Sheet}
 use Rattle.sheet.proofs.sheet.Sheet as D-Sheet
 use Rattle.sheet.proofs.sheet.Sheet.Laws as D-Sheet′
 use Rattle.host.proofs.Folds.{fold-start, fold-more, fold-end}
-use Rattle.sheet.proofs.sheet.with_line as g1
-use Rattle.sheet.proofs.sheet.with_line.Symbol as g1-def
-use Rattle.sheet.proofs.sheet.with_line.Symbol.{name as #sheet·sheet·with-line}
-use Rattle.sheet.proofs.sheet.with_line.Met as g1-thm
+use Rattle.sheet_code.proofs.lines.with_line as g1
+use Rattle.sheet_code.proofs.lines.with_line.Symbol as g1-def
+use Rattle.sheet_code.proofs.lines.with_line.Symbol.{name as #sheet-code·lines·with-line}
+use Rattle.sheet_code.proofs.lines.with_line.Met as g1-thm
 use Rattle.host.proofs.sheets.with_lines.Key.{name as #host·sheets·with-lines}
 use Rattle.host.proofs.sheets.with_lines as f
 use Rattle.host.proofs.sheets.with_lines.Statement as stated
@@ -83,7 +83,7 @@ module _ {M : Type 1} (𝓤 : URA M) (H : Heap 𝓤) (A : Atoms 𝓤) (at-mem : 
   abbrev Called-g1 : Contract 𝓤
   Called-g1 = tripleOf 𝓤 H A g1.signature (g1.spec 𝓤 H A at-mem run)
 
-  module _ (W : Given 𝓤 H A) (𝓣 : Tables 𝓤 H) (known-g1 : Triple 𝓤 (𝓣 .C #sheet·sheet·with-line) Called-g1) where
+  module _ (W : Given 𝓤 H A) (𝓣 : Tables 𝓤 H) (known-g1 : Triple 𝓤 (𝓣 .C #sheet-code·lines·with-line) Called-g1) where
     module _ (κ-lines : Lft) (q-lines : Share) (b-lines o-lines : ℕ) (γ-lines : GName) (lines : List Line) (from₀ : Sheet) (is-lines : Room D-Line.the-row (length lines)) (is-from₀ : Is D-Sheet.the-row from₀ (LL.val D-Sheet.the-type D-Sheet′.the-laws from₀ ∷ [])) where
       abbrev ref-lines : RefT (List Line)
       ref-lines = record { ptr = (b-lines, o-lines); name = γ-lines; now = lines }
@@ -141,7 +141,7 @@ module _ {M : Type 1} (𝓤 : URA M) (H : Heap 𝓤) (A : Atoms 𝓤) (at-mem : 
             elem-out ! D-Line.the-row (Is D-Line.the-row) (shows 𝓤 H A D-Line.the-row) (LL.vals D-Line.the-type D-Line′.the-laws) (LL.tells D-Line.the-type D-Line′.the-laws) q′ lines (t .i) none b-lines o-lines less (λ is-elem.
             assigns ! (of-opd ! (load ! (from ! (hop ! (look ! 7 refl) (stop !))) (look-raw ! 0 refl))) (from ! (stop !)) (init ! 5 refl (LL.lawful D-Line.the-type D-Line′.the-laws 𝓤 H A W .typed (elem (t .i)) _ is-elem .0)) $
             elem-back ! D-Line.the-row q′ lines (t .i) none (LL.vals D-Line.the-type D-Line′.the-laws (elem (t .i))) b-lines o-lines less $ shuts-slice ! tt D-Line.the-row q′ lines b-lines o-lines $
-            -- sheet::sheet::with_line
+            -- sheet_code::lines::with_line
             nothing ! $ nothing ! $ owned ! D-Line.the-row (Is D-Line.the-row) (LL.makes D-Line.the-type D-Line′.the-plain 𝓤 H A) (elem (t .i)) _ is-elem $ fjoin ! $ owned ! D-Sheet.the-row (Is D-Sheet.the-row) (LL.makes D-Sheet.the-type D-Sheet′.the-plain 𝓤 H A) (t .s) _ (t .held) $ fjoin ! $ nothing ! $ join ! $ join ! $ use1 W (raw (Called-g1 .pre ((tt, tt, tt, ((t .s), ((elem (t .i)), tt)), ((t .v) ∷ [], (LL.val D-Line.the-type D-Line′.the-laws (elem (t .i)) ∷ [], tt))), tt))) (id⊢ 𝓤 _) $
             calls-at ! (fmOf 𝓤 H (W .laws) 𝓣) Called-g1 known-g1 ((tt, tt, tt, ((t .s), ((elem (t .i)), tt)), ((t .v) ∷ [], (LL.val D-Line.the-type D-Line′.the-laws (elem (t .i)) ∷ [], tt))), tt) (and-then ! (load ! (from ! (stop !)) (look ! 13 refl)) (and-then ! (load ! (from ! (stop !)) (look ! 3 refl)) (no-more !))) (λ u-r.
             use1 W (later (some (λ (r : Sheet). (‵ ftrue ⊛ ‵ (D-Sheet.the-row .own r (u-r ∷ []))) ⊛ some (λ (ws-r : Lasts g1.ended tt ((t .s), ((elem (t .i)), tt))). ‵ (lasts g1.ended tt ((t .s), ((elem (t .i)), tt)) ws-r) ⊛ raw (fact 𝓤 (r ≡ withLine (t .s) (elem (t .i)))))))) (id⊢ 𝓤 _) $ await ! tt $ pick ! (λ r.
@@ -207,4 +207,4 @@ with-lines-spec 𝓤 H 𝓜 𝓖 𝓡 =
     entered 𝓤 H (tripleOf 𝓤 H (𝓖 .A) f.signature (f.spec 𝓤 H (𝓖 .A) (𝓜 .mem) (𝓡 .run)))
     (tables 𝓤 H 𝓜 𝓡 code.env .C) (tables 𝓤 H 𝓜 𝓡 code.env .Λ) #host·sheets·with-lines code.function (code.unfolded 𝓤 H 𝓜 𝓡)
     (meets 𝓤 H (𝓖 .A) (𝓜 .mem) (𝓡 .run) (givenOf 𝓤 H 𝓜 𝓖) (tablesOf 𝓤 H 𝓜 (tables 𝓤 H 𝓜 𝓡 code.env))
-    (cited 𝓤 H (Called-g1 𝓤 H (𝓖 .A) (𝓜 .mem) (𝓡 .run)) 𝓜 𝓡 code.env #sheet·sheet·with-line g1-def.routine code.calls-sheet·sheet·with-line (g1-thm.met 𝓤 H 𝓜 𝓖 𝓡)))
+    (cited 𝓤 H (Called-g1 𝓤 H (𝓖 .A) (𝓜 .mem) (𝓡 .run)) 𝓜 𝓡 code.env #sheet-code·lines·with-line g1-def.routine code.calls-sheet-code·lines·with-line (g1-thm.met 𝓤 H 𝓜 𝓖 𝓡)))

@@ -49,10 +49,10 @@ use Rattle.tracker.proofs.feed.AnswerFed as D-AnswerFed
 use Rattle.tracker.proofs.feed.AnswerFed.Laws as D-AnswerFed′
 use Rattle.message.proofs.read.Reading as D-Reading
 use Rattle.message.proofs.read.Reading.Laws as D-Reading′
-use Rattle.tracker.proofs.feed.after_answer as g1
-use Rattle.tracker.proofs.feed.after_answer.Symbol as g1-def
-use Rattle.tracker.proofs.feed.after_answer.Symbol.{name as #tracker·feed·after-answer}
-use Rattle.tracker.proofs.feed.after_answer.Met as g1-thm
+use Rattle.tracker_code.proofs.feed.after_answer as g1
+use Rattle.tracker_code.proofs.feed.after_answer.Symbol as g1-def
+use Rattle.tracker_code.proofs.feed.after_answer.Symbol.{name as #tracker-code·feed·after-answer}
+use Rattle.tracker_code.proofs.feed.after_answer.Met as g1-thm
 use Rattle.host.proofs.trackers.feed.Key.{name as #host·trackers·feed}
 use Rattle.host.proofs.trackers.feed as f
 use Rattle.host.proofs.trackers.feed.Statement as stated
@@ -69,7 +69,7 @@ module _ {M : Type 1} (𝓤 : URA M) (H : Heap 𝓤) (A : Atoms 𝓤) (at-mem : 
   abbrev Called-g1 : Contract 𝓤
   Called-g1 = tripleOf 𝓤 H A g1.signature (g1.spec 𝓤 H A at-mem run)
 
-  module _ (W : Given 𝓤 H A) (𝓣 : Tables 𝓤 H) (known-g1 : Triple 𝓤 (𝓣 .C #tracker·feed·after-answer) Called-g1) where
+  module _ (W : Given 𝓤 H A) (𝓣 : Tables 𝓤 H) (known-g1 : Triple 𝓤 (𝓣 .C #tracker-code·feed·after-answer) Called-g1) where
     module _ (κ-tracker : Lft) (q-tracker : Share) (b-tracker o-tracker : ℕ) (γ-tracker : GName) (tracker : Tracker) (zone : ℕ) (command : ℕ) (answer : ℕ) (κ-body : Lft) (q-body : Share) (b-body o-body : ℕ) (γ-body : GName) (body : List ℕ) (is-zone : Is u8 zone (vint w8 zone ∷ [])) (is-command : Is u8 command (vint w8 command ∷ [])) (is-answer : Is u8 answer (vint w8 answer ∷ [])) (is-body : Room u8 (length body)) where
       abbrev ref-tracker : RefT Tracker
       ref-tracker = record { ptr = (b-tracker, o-tracker); name = γ-tracker; now = tracker }
@@ -95,7 +95,7 @@ module _ {M : Type 1} (𝓤 : URA M) (H : Heap 𝓤) (A : Atoms 𝓤) (at-mem : 
           alloc1 ! (λ l0. alloc1 ! (λ l1. alloc1 ! (λ l2. alloc1 ! (λ l3. alloc1 ! (λ l4. alloc1 ! (λ l5. alloc1 ! (λ l6. alloc1 ! (λ l7. alloc0 ! $ params1 ! $
           pass1 ! (init ! 12 refl (tt, tt)) $ pass1 ! (init ! 10 refl (uint-lawful 𝓤 H A W w8 .typed zone _ is-zone .0)) $ pass1 ! (init ! 8 refl (uint-lawful 𝓤 H A W w8 .typed command _ is-command .0)) $ pass1 ! (init ! 6 refl (uint-lawful 𝓤 H A W w8 .typed answer _ is-answer .0)) $ pass1 ! (init ! 4 refl (tt, (tt, (record { fits = is-body .0 }, tt)))) $ pass0 ! $
           move ! (17 ∷ []) $ fsplit ! $ fsplit3 ! $ drop ! $ move ! (2 ∷ []) $ fsplit ! $ drop ! $ fsplit ! $ drop ! $ fsplit ! $ drop ! $ fsplit ! $ move ! (20 ∷ []) $ split ! $ move ! (1 ∷ []) $ split ! $
-          -- tracker::feed::after_answer
+          -- tracker_code::feed::after_answer
           move ! (5 ∷ 6 ∷ 2 ∷ []) $ opens ! tt D-Tracker.the-row {h = tracker} b-tracker o-tracker (λ vs. spelt ! D-Tracker.the-row (Is D-Tracker.the-row) (shows 𝓤 H A D-Tracker.the-row) (LL.vals D-Tracker.the-type D-Tracker′.the-laws) (LL.tells D-Tracker.the-type D-Tracker′.the-laws) fullShare tracker vs b-tracker o-tracker $ move ! (1 ∷ []) $ peeks ! D-Tracker.the-row (Is D-Tracker.the-row) (shows 𝓤 H A D-Tracker.the-row) tracker (LL.val D-Tracker.the-type D-Tracker′.the-laws tracker ∷ []) (λ is-tracker. drop ! $
           assigns ! (of-opd ! (load ! (from ! (hop ! (look ! 20 refl) (stop !))) (look-raw ! 0 refl))) (from ! (stop !)) (init ! 8 refl (LL.lawful D-Tracker.the-type D-Tracker′.the-laws 𝓤 H A W .typed tracker _ is-tracker .0)) $
           nothing ! $ nothing ! $ move ! (8 ∷ 0 ∷ []) $ fjoin ! $ owned ! u8 (Is u8) (uint-makes 𝓤 H A W w8) answer _ is-answer $ fjoin ! $ owned ! u8 (Is u8) (uint-makes 𝓤 H A W w8) command _ is-command $ fjoin ! $ owned ! u8 (Is u8) (uint-makes 𝓤 H A W w8) zone _ is-zone $ fjoin ! $ owned ! D-Tracker.the-row (Is D-Tracker.the-row) (LL.makes D-Tracker.the-type D-Tracker′.the-plain 𝓤 H A) tracker _ is-tracker $ fjoin ! $ nothing ! $ move ! (7 ∷ 0 ∷ []) $ join ! $ join ! $ join ! $ use1 W (raw (Called-g1 .pre (((κ-body, tt), (q-body, tt), tt, (tracker, (zone, (command, (answer, (ref-body, tt))))), (LL.val D-Tracker.the-type D-Tracker′.the-laws tracker ∷ [], (vint w8 zone ∷ [], (vint w8 command ∷ [], (vint w8 answer ∷ [], (sliceVal (b-body, o-body) (length body) ∷ [], tt)))))), tt))) (id⊢ 𝓤 _) $
@@ -129,4 +129,4 @@ feed-spec 𝓤 H 𝓜 𝓖 𝓡 =
     entered 𝓤 H (tripleOf 𝓤 H (𝓖 .A) f.signature (f.spec 𝓤 H (𝓖 .A) (𝓜 .mem) (𝓡 .run)))
     (tables 𝓤 H 𝓜 𝓡 code.env .C) (tables 𝓤 H 𝓜 𝓡 code.env .Λ) #host·trackers·feed code.function (code.unfolded 𝓤 H 𝓜 𝓡)
     (meets 𝓤 H (𝓖 .A) (𝓜 .mem) (𝓡 .run) (givenOf 𝓤 H 𝓜 𝓖) (tablesOf 𝓤 H 𝓜 (tables 𝓤 H 𝓜 𝓡 code.env))
-    (cited 𝓤 H (Called-g1 𝓤 H (𝓖 .A) (𝓜 .mem) (𝓡 .run)) 𝓜 𝓡 code.env #tracker·feed·after-answer g1-def.routine code.calls-tracker·feed·after-answer (g1-thm.met 𝓤 H 𝓜 𝓖 𝓡)))
+    (cited 𝓤 H (Called-g1 𝓤 H (𝓖 .A) (𝓜 .mem) (𝓡 .run)) 𝓜 𝓡 code.env #tracker-code·feed·after-answer g1-def.routine code.calls-tracker-code·feed·after-answer (g1-thm.met 𝓤 H 𝓜 𝓖 𝓡)))

@@ -48,10 +48,10 @@ use Rattle.tracker.proofs.capture.CaptureFed as D-CaptureFed
 use Rattle.tracker.proofs.capture.CaptureFed.Laws as D-CaptureFed′
 use Rattle.tracker.proofs.capture.CaptureAnswer as D-CaptureAnswer
 use Rattle.tracker.proofs.capture.CaptureAnswer.Laws as D-CaptureAnswer′
-use Rattle.tracker.proofs.capture.after_capture as g1
-use Rattle.tracker.proofs.capture.after_capture.Symbol as g1-def
-use Rattle.tracker.proofs.capture.after_capture.Symbol.{name as #tracker·capture·after-capture}
-use Rattle.tracker.proofs.capture.after_capture.Met as g1-thm
+use Rattle.tracker_code.proofs.capture.after_capture as g1
+use Rattle.tracker_code.proofs.capture.after_capture.Symbol as g1-def
+use Rattle.tracker_code.proofs.capture.after_capture.Symbol.{name as #tracker-code·capture·after-capture}
+use Rattle.tracker_code.proofs.capture.after_capture.Met as g1-thm
 use Rattle.host.proofs.trackers.feed_capture.Key.{name as #host·trackers·feed-capture}
 use Rattle.host.proofs.trackers.feed_capture as f
 use Rattle.host.proofs.trackers.feed_capture.Statement as stated
@@ -68,7 +68,7 @@ module _ {M : Type 1} (𝓤 : URA M) (H : Heap 𝓤) (A : Atoms 𝓤) (at-mem : 
   abbrev Called-g1 : Contract 𝓤
   Called-g1 = tripleOf 𝓤 H A g1.signature (g1.spec 𝓤 H A at-mem run)
 
-  module _ (W : Given 𝓤 H A) (𝓣 : Tables 𝓤 H) (known-g1 : Triple 𝓤 (𝓣 .C #tracker·capture·after-capture) Called-g1) where
+  module _ (W : Given 𝓤 H A) (𝓣 : Tables 𝓤 H) (known-g1 : Triple 𝓤 (𝓣 .C #tracker-code·capture·after-capture) Called-g1) where
     module _ (κ-tracker : Lft) (q-tracker : Share) (b-tracker o-tracker : ℕ) (γ-tracker : GName) (tracker : Tracker) (κ-capture : Lft) (q-capture : Share) (b-capture o-capture : ℕ) (γ-capture : GName) (capture : List ℕ) (is-capture : Room u8 (length capture)) where
       abbrev ref-tracker : RefT Tracker
       ref-tracker = record { ptr = (b-tracker, o-tracker); name = γ-tracker; now = tracker }
@@ -94,7 +94,7 @@ module _ {M : Type 1} (𝓤 : URA M) (H : Heap 𝓤) (A : Atoms 𝓤) (at-mem : 
           alloc1 ! (λ l0. alloc1 ! (λ l1. alloc1 ! (λ l2. alloc1 ! (λ l3. alloc1 ! (λ l4. alloc0 ! $ params1 ! $
           pass1 ! (init ! 6 refl (tt, tt)) $ pass1 ! (init ! 4 refl (tt, (tt, (record { fits = is-capture .0 }, tt)))) $ pass0 ! $
           move ! (11 ∷ []) $ fsplit ! $ fsplit3 ! $ drop ! $ move ! (2 ∷ []) $ fsplit ! $ move ! (14 ∷ []) $ split ! $ move ! (1 ∷ []) $ split ! $
-          -- tracker::capture::after_capture
+          -- tracker_code::capture::after_capture
           move ! (5 ∷ 6 ∷ 2 ∷ []) $ opens ! tt D-Tracker.the-row {h = tracker} b-tracker o-tracker (λ vs. spelt ! D-Tracker.the-row (Is D-Tracker.the-row) (shows 𝓤 H A D-Tracker.the-row) (LL.vals D-Tracker.the-type D-Tracker′.the-laws) (LL.tells D-Tracker.the-type D-Tracker′.the-laws) fullShare tracker vs b-tracker o-tracker $ move ! (1 ∷ []) $ peeks ! D-Tracker.the-row (Is D-Tracker.the-row) (shows 𝓤 H A D-Tracker.the-row) tracker (LL.val D-Tracker.the-type D-Tracker′.the-laws tracker ∷ []) (λ is-tracker. drop ! $
           assigns ! (of-opd ! (load ! (from ! (hop ! (look ! 14 refl) (stop !))) (look-raw ! 0 refl))) (from ! (stop !)) (init ! 8 refl (LL.lawful D-Tracker.the-type D-Tracker′.the-laws 𝓤 H A W .typed tracker _ is-tracker .0)) $
           nothing ! $ nothing ! $ move ! (8 ∷ 0 ∷ []) $ fjoin ! $ owned ! D-Tracker.the-row (Is D-Tracker.the-row) (LL.makes D-Tracker.the-type D-Tracker′.the-plain 𝓤 H A) tracker _ is-tracker $ fjoin ! $ nothing ! $ move ! (7 ∷ 0 ∷ []) $ join ! $ join ! $ join ! $ use1 W (raw (Called-g1 .pre (((κ-capture, tt), (q-capture, tt), tt, (tracker, (ref-capture, tt)), (LL.val D-Tracker.the-type D-Tracker′.the-laws tracker ∷ [], (sliceVal (b-capture, o-capture) (length capture) ∷ [], tt))), tt))) (id⊢ 𝓤 _) $
@@ -128,4 +128,4 @@ feed-capture-spec 𝓤 H 𝓜 𝓖 𝓡 =
     entered 𝓤 H (tripleOf 𝓤 H (𝓖 .A) f.signature (f.spec 𝓤 H (𝓖 .A) (𝓜 .mem) (𝓡 .run)))
     (tables 𝓤 H 𝓜 𝓡 code.env .C) (tables 𝓤 H 𝓜 𝓡 code.env .Λ) #host·trackers·feed-capture code.function (code.unfolded 𝓤 H 𝓜 𝓡)
     (meets 𝓤 H (𝓖 .A) (𝓜 .mem) (𝓡 .run) (givenOf 𝓤 H 𝓜 𝓖) (tablesOf 𝓤 H 𝓜 (tables 𝓤 H 𝓜 𝓡 code.env))
-    (cited 𝓤 H (Called-g1 𝓤 H (𝓖 .A) (𝓜 .mem) (𝓡 .run)) 𝓜 𝓡 code.env #tracker·capture·after-capture g1-def.routine code.calls-tracker·capture·after-capture (g1-thm.met 𝓤 H 𝓜 𝓖 𝓡)))
+    (cited 𝓤 H (Called-g1 𝓤 H (𝓖 .A) (𝓜 .mem) (𝓡 .run)) 𝓜 𝓡 code.env #tracker-code·capture·after-capture g1-def.routine code.calls-tracker-code·capture·after-capture (g1-thm.met 𝓤 H 𝓜 𝓖 𝓡)))

@@ -41,10 +41,10 @@ use Rattle.tracker.proofs.tracker.Tracker.Laws as D-Tracker′
 use Rattle.tracker.specs.declared.tracker.Kept.{Kept}
 use Rattle.tracker.proofs.tracker.Kept as D-Kept
 use Rattle.tracker.proofs.tracker.Kept.Laws as D-Kept′
-use Rattle.tracker.proofs.tracker.kept_in as g1
-use Rattle.tracker.proofs.tracker.kept_in.Symbol as g1-def
-use Rattle.tracker.proofs.tracker.kept_in.Symbol.{name as #tracker·tracker·kept-in}
-use Rattle.tracker.proofs.tracker.kept_in.Met as g1-thm
+use Rattle.tracker_code.proofs.known.kept_in as g1
+use Rattle.tracker_code.proofs.known.kept_in.Symbol as g1-def
+use Rattle.tracker_code.proofs.known.kept_in.Symbol.{name as #tracker-code·known·kept-in}
+use Rattle.tracker_code.proofs.known.kept_in.Met as g1-thm
 use Rattle.host.proofs.trackers.read_cell.Key.{name as #host·trackers·read-cell}
 use Rattle.host.proofs.trackers.read_cell as f
 use Rattle.host.proofs.trackers.read_cell.Statement as stated
@@ -57,7 +57,7 @@ module _ {M : Type 1} (𝓤 : URA M) (H : Heap 𝓤) (A : Atoms 𝓤) (at-mem : 
   abbrev Called-g1 : Contract 𝓤
   Called-g1 = tripleOf 𝓤 H A g1.signature (g1.spec 𝓤 H A at-mem run)
 
-  module _ (W : Given 𝓤 H A) (𝓣 : Tables 𝓤 H) (known-g1 : Triple 𝓤 (𝓣 .C #tracker·tracker·kept-in) Called-g1) where
+  module _ (W : Given 𝓤 H A) (𝓣 : Tables 𝓤 H) (known-g1 : Triple 𝓤 (𝓣 .C #tracker-code·known·kept-in) Called-g1) where
     module _ (κ-tracker : Lft) (q-tracker : Share) (b-tracker o-tracker : ℕ) (γ-tracker : GName) (tracker : Tracker) (zone : ℕ) (command : ℕ) (is-zone : Is u8 zone (vint w8 zone ∷ [])) (is-command : Is u8 command (vint w8 command ∷ [])) where
       abbrev ref-tracker : RefT Tracker
       ref-tracker = record { ptr = (b-tracker, o-tracker); name = γ-tracker; now = tracker }
@@ -80,7 +80,7 @@ module _ {M : Type 1} (𝓤 : URA M) (H : Heap 𝓤) (A : Atoms 𝓤) (at-mem : 
           alloc1 ! (λ l0. alloc1 ! (λ l1. alloc1 ! (λ l2. alloc1 ! (λ l3. alloc1 ! (λ l4. alloc0 ! $ params1 ! $
           pass1 ! (init ! 6 refl (tt, tt)) $ pass1 ! (init ! 4 refl (uint-lawful 𝓤 H A W w8 .typed zone _ is-zone .0)) $ pass1 ! (init ! 2 refl (uint-lawful 𝓤 H A W w8 .typed command _ is-command .0)) $ pass0 ! $
           move ! (11 ∷ []) $ fsplit ! $ fsplit3 ! $ drop ! $ drop ! $ move ! (12 ∷ []) $ split ! $
-          -- tracker::tracker::kept_in
+          -- tracker_code::known::kept_in
           move ! (2 ∷ 0 ∷ []) $ looks ! tt D-Tracker.the-row (Is D-Tracker.the-row) (shows 𝓤 H A D-Tracker.the-row) (LL.vals D-Tracker.the-type D-Tracker′.the-laws) (LL.tells D-Tracker.the-type D-Tracker′.the-laws) (LL.copy D-Tracker.the-type D-Tracker′.the-copy 𝓤 H A W) tracker b-tracker o-tracker (λ q′ vs. spelt ! D-Tracker.the-row (Is D-Tracker.the-row) (shows 𝓤 H A D-Tracker.the-row) (LL.vals D-Tracker.the-type D-Tracker′.the-laws) (LL.tells D-Tracker.the-type D-Tracker′.the-laws) q′ tracker vs b-tracker o-tracker $ move ! (1 ∷ []) $ peeks ! D-Tracker.the-row (Is D-Tracker.the-row) (shows 𝓤 H A D-Tracker.the-row) tracker (LL.val D-Tracker.the-type D-Tracker′.the-laws tracker ∷ []) (λ is-tracker.
           assigns ! (of-opd ! (load ! (from ! (hop ! (look ! 12 refl) (stop !))) (look-raw ! 1 refl))) (from ! (stop !)) (init ! 6 refl (LL.lawful D-Tracker.the-type D-Tracker′.the-laws 𝓤 H A W .typed tracker _ is-tracker .0)) $ move ! (1 ∷ 0 ∷ 2 ∷ 3 ∷ []) $ shuts ! tt D-Tracker.the-row q′ tracker (LL.val D-Tracker.the-type D-Tracker′.the-laws tracker ∷ []) b-tracker o-tracker $
           nothing ! $ nothing ! $ owned ! u8 (Is u8) (uint-makes 𝓤 H A W w8) command _ is-command $ fjoin ! $ owned ! u8 (Is u8) (uint-makes 𝓤 H A W w8) zone _ is-zone $ fjoin ! $ owned ! D-Tracker.the-row (Is D-Tracker.the-row) (LL.makes D-Tracker.the-type D-Tracker′.the-plain 𝓤 H A) tracker _ is-tracker $ fjoin ! $ nothing ! $ join ! $ join ! $ use1 W (raw (Called-g1 .pre ((tt, tt, tt, (tracker, (zone, (command, tt))), (LL.val D-Tracker.the-type D-Tracker′.the-laws tracker ∷ [], (vint w8 zone ∷ [], (vint w8 command ∷ [], tt)))), tt))) (id⊢ 𝓤 _) $
@@ -107,4 +107,4 @@ read-cell-spec 𝓤 H 𝓜 𝓖 𝓡 =
     entered 𝓤 H (tripleOf 𝓤 H (𝓖 .A) f.signature (f.spec 𝓤 H (𝓖 .A) (𝓜 .mem) (𝓡 .run)))
     (tables 𝓤 H 𝓜 𝓡 code.env .C) (tables 𝓤 H 𝓜 𝓡 code.env .Λ) #host·trackers·read-cell code.function (code.unfolded 𝓤 H 𝓜 𝓡)
     (meets 𝓤 H (𝓖 .A) (𝓜 .mem) (𝓡 .run) (givenOf 𝓤 H 𝓜 𝓖) (tablesOf 𝓤 H 𝓜 (tables 𝓤 H 𝓜 𝓡 code.env))
-    (cited 𝓤 H (Called-g1 𝓤 H (𝓖 .A) (𝓜 .mem) (𝓡 .run)) 𝓜 𝓡 code.env #tracker·tracker·kept-in g1-def.routine code.calls-tracker·tracker·kept-in (g1-thm.met 𝓤 H 𝓜 𝓖 𝓡)))
+    (cited 𝓤 H (Called-g1 𝓤 H (𝓖 .A) (𝓜 .mem) (𝓡 .run)) 𝓜 𝓡 code.env #tracker-code·known·kept-in g1-def.routine code.calls-tracker-code·known·kept-in (g1-thm.met 𝓤 H 𝓜 𝓖 𝓡)))
