@@ -1,4 +1,4 @@
-# The rows of crates/row/src/table.rt, a line each, with a tab between: the numbers in decimal, the row's line in the
+# The rows of crates/row_table/src/table.rt, a line each, with a tab between: the numbers in decimal, the row's line in the
 # file. A line of the table that is no row of 14 numbers fails, and says where.
 
 function wrong(why) {
