@@ -1,4 +1,8 @@
 // Readers, captures and the bytes of frames.
+use crate::arguments::argument;
+use crate::arguments::byte;
+use crate::arguments::number;
+use crate::names;
 use crate::out::say;
 use crate::out::say_after;
 use crate::out::say_buffer;
@@ -20,10 +24,6 @@ use frame::direction::NamedDirection;
 use frame::reader::ByteAnswer;
 use frame::reader::Reader;
 use frame_capture::capture::next_event;
-use words::arguments::argument;
-use words::arguments::byte;
-use words::arguments::number;
-use words::names;
 
 // An operation on a capture or on the bytes of frames.
 pub(crate) fn operate(operation: usize, space: &[u8], ends: [usize; 14], count: usize) {
@@ -50,12 +50,7 @@ pub(crate) fn operate(operation: usize, space: &[u8], ends: [usize; 14], count: 
 
 fn directed(operation: usize, direction: Direction, space: &[u8], ends: [usize; 14], count: usize) {
     if operation == names::PARTS {
-        parts(
-            direction,
-            space,
-            ends,
-            std::num::wrapping_sub_usize(count, 1),
-        );
+        parts(direction, space, ends, count);
         return;
     }
     if operation == names::EVENT {
@@ -91,12 +86,12 @@ fn captured(operation: usize, letter: u8, direction: Direction, bytes: &[u8]) {
     fields(direction, bytes)
 }
 
-// Part after part of a stream: the arguments from the second on.
+// Part after part of a stream: the arguments from the second on, of a line of that many words.
 fn parts(direction: Direction, space: &[u8], ends: [usize; 14], count: usize) {
     let mut reader = Reader::new(direction);
-    for i in 0..count {
-        let bytes = argument(space, ends, std::num::wrapping_add_usize(i, 2));
-        space_before(i);
+    for i in 2..count {
+        let bytes = argument(space, ends, i);
+        space_before(i - 2);
         part(reader, bytes);
         let taken = frame::part::take_part(reader, bytes);
         reader = taken.reader;

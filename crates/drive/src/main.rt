@@ -1,16 +1,17 @@
 // Runs the library's public functions on operations from standard input and prints what they answer; the form of the
 // operations is in tests/README.md.
+mod arguments;
+mod doors;
 mod frames;
 mod messages;
+mod names;
 mod out;
 mod sheets;
 mod spaces;
 mod texts;
 mod writes;
 
-use words::names;
-
-// A line that fills its space is too long.
+// Room for a line; of a longer one the first characters are taken.
 const LINE: usize = 262144;
 // Reads of 65,536 bytes, more than any input has.
 const READS: u32 = 4294967295;
@@ -58,26 +59,27 @@ fn take_byte(byte: u8, line: &mut [u8], count: usize) -> usize {
     count + 1
 }
 
-// One operation, and the line feed behind what it prints; a listing has its own.
+// One operation; a line that begins with # is none.
 fn operate(line: &mut [u8], count: usize) {
-    if words::arguments::letter(line, count, 0) == b'#' {
+    let word = arguments::word(line, count);
+    if arguments::letter(line, 0) == b'#' {
         return;
     }
-    let decoded = words::arguments::decoded(line, count);
-    let ends = decoded.ends;
-    let arguments = decoded.count;
-    let operation = names::operation(decoded.name, line, ends, arguments, count < LINE);
-    run(operation, line, ends, arguments)
+    let taken = arguments::decoded(line, count);
+    let ends = taken.ends;
+    run(names::operation(word), line, ends, taken.count)
 }
 
-// Runs an operation by its group; a listing ends its last line itself.
+// Runs an operation by its group, and ends its line; a listing ends its last line itself.
 fn run(operation: usize, space: &[u8], ends: [usize; 14], count: usize) {
     if operation < names::READS {
         frames::operate(operation, space, ends, count);
     } else if operation < names::SHEETS {
         messages::operate(operation, space, ends);
-    } else if operation < names::WRITES {
+    } else if operation < names::DOORS {
         sheets::operate(operation, space, ends);
+    } else if operation < names::WRITES {
+        doors::operate(operation, space, ends);
     } else if operation < names::LISTS {
         writes::operate(operation, space, ends);
     } else if operation < names::UNKNOWN {

@@ -1,4 +1,8 @@
 // Messages read and written.
+use crate::arguments::argument;
+use crate::arguments::byte;
+use crate::arguments::number;
+use crate::names;
 use crate::out::say;
 use crate::out::say_buffer;
 use crate::out::say_byte;
@@ -22,10 +26,6 @@ use row::profile::Profile;
 use row::signed::Coded;
 use row::table::Found;
 use sheet::line::Line;
-use words::arguments::argument;
-use words::arguments::byte;
-use words::arguments::number;
-use words::names;
 
 // An operation on messages that are read, and on codes and rows.
 pub(crate) fn operate(operation: usize, space: &[u8], ends: [usize; 14]) {

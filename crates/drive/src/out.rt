@@ -96,7 +96,7 @@ fn with_room(gathered: &[u8], at: usize) -> usize {
 }
 
 // One byte more, where there is room.
-fn put_byte(to: &mut [u8], count: usize, byte: u8) -> usize {
+pub(crate) fn put_byte(to: &mut [u8], count: usize, byte: u8) -> usize {
     if count >= to.len() {
         return count;
     }

@@ -1,4 +1,7 @@
 // Sheet files, runs, sign-offs and trackers.
+use crate::arguments::argument;
+use crate::arguments::byte;
+use crate::names;
 use crate::out;
 use crate::out::say;
 use crate::out::say_buffer;
@@ -12,9 +15,6 @@ use sheetfile::file::FileRead;
 use sheetfile::write::SheetWritten;
 use signing::by_letter::CaptureCell;
 use signing::sign::Signed;
-use words::arguments::argument;
-use words::arguments::byte;
-use words::names;
 
 // An operation on sheet files that writes nothing, and on trackers.
 pub(crate) fn operate(operation: usize, space: &[u8], ends: [usize; 14]) {
@@ -32,7 +32,7 @@ pub(crate) fn operate(operation: usize, space: &[u8], ends: [usize; 14]) {
 }
 
 // A refusal and its place.
-fn say_refused(number: u8, place: usize) {
+pub(crate) fn say_refused(number: u8, place: usize) {
     out::say_refused(number);
     say_counted(b" at ", place as u64)
 }
@@ -87,7 +87,11 @@ pub(crate) fn say_written(written: SheetWritten, buf: &[u8]) {
 }
 
 fn sign(letter: u8, file: &[u8], capture: &[u8]) {
-    match signing_code::by_letter::sign_file(letter, file, capture) {
+    say_signed(signing_code::by_letter::sign_file(letter, file, capture))
+}
+
+pub(crate) fn say_signed(signed: Signed) {
+    match signed {
         Signed::Yes => say(b"signed"),
         Signed::No => say(b"not signed"),
         Signed::Refused(number, place) => say_refused(number, place),

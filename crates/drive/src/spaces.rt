@@ -20,27 +20,13 @@ const PAIRS: u32 = 65536;
 
 const MESSAGES: u32 = 16777216;
 
-// How many messages were accepted and how many got each refusal.
+// How many messages were accepted, at 0, and how many got each refusal, at its number.
 pub(crate) struct Counts {
-    accepted: u64,
-    first: u64,
-    second: u64,
-    third: u64,
-    fourth: u64,
-    fifth: u64,
-    thirteenth: u64,
+    of: [u64; 14],
 }
 
 fn none() -> Counts {
-    Counts {
-        accepted: 0,
-        first: 0,
-        second: 0,
-        third: 0,
-        fourth: 0,
-        fifth: 0,
-        thirteenth: 0,
-    }
+    Counts { of: [0; 14] }
 }
 
 // Every zone, command and data byte.
@@ -89,32 +75,11 @@ fn count_one(
     }
 }
 
-fn one_more(count: u64) -> u64 {
-    std::num::wrapping_add_u64(count, 1)
-}
-
 fn counted_as(counts: Counts, number: u8) -> Counts {
     let mut next = counts;
-    if number == 0 {
-        next.accepted = one_more(next.accepted);
-    }
-    if number == 1 {
-        next.first = one_more(next.first);
-    }
-    if number == 2 {
-        next.second = one_more(next.second);
-    }
-    if number == 3 {
-        next.third = one_more(next.third);
-    }
-    if number == 4 {
-        next.fourth = one_more(next.fourth);
-    }
-    if number == 5 {
-        next.fifth = one_more(next.fifth);
-    }
-    if number == 13 {
-        next.thirteenth = one_more(next.thirteenth);
+    let place = number as usize;
+    if place < 14 {
+        next.of[place] = std::num::wrapping_add_u64(counts.of[place], 1);
     }
     next
 }
@@ -144,14 +109,14 @@ fn say_message_content(message: Message) {
 }
 
 fn say_counts(counts: Counts) {
-    say_counted(b"accepted ", counts.accepted);
+    say_counted(b"accepted ", counts.of[0]);
     say(b" refused");
-    say_count(1, counts.first);
-    say_count(2, counts.second);
-    say_count(3, counts.third);
-    say_count(4, counts.fourth);
-    say_count(5, counts.fifth);
-    say_count(13, counts.thirteenth)
+    say_count(1, counts.of[1]);
+    say_count(2, counts.of[2]);
+    say_count(3, counts.of[3]);
+    say_count(4, counts.of[4]);
+    say_count(5, counts.of[5]);
+    say_count(13, counts.of[13])
 }
 
 // How many got a refusal.

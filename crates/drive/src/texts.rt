@@ -1,11 +1,12 @@
 // The listing, whole and in pieces.
+use crate::arguments::argument;
+use crate::arguments::number;
+use crate::names;
 use crate::out::say;
+use crate::writes::shorter;
 use listing_pieces::piece::Piece;
 use listing_pieces::piece::Place;
 use listing_pieces::piece::list_piece;
-use words::arguments::argument;
-use words::arguments::number;
-use words::names;
 
 // More than any listing has rows.
 const PIECES: u32 = 100000;
@@ -17,8 +18,8 @@ pub(crate) fn operate(operation: usize, space: &[u8], ends: [usize; 14]) {
         listing(argument(space, ends, 1), &mut room);
         return;
     }
-    let length = number(space, ends, 1) % 4097;
-    pieces(argument(space, ends, 2), &mut room, length as usize)
+    let length = shorter(number(space, ends, 1));
+    pieces(argument(space, ends, 2), &mut room, length)
 }
 
 fn pieces(input: &[u8], room: &mut [u8], length: usize) {

@@ -1,8 +1,12 @@
 // Operations that write into a buffer of a given length, all AA before.
+use crate::arguments::argument;
+use crate::arguments::byte;
+use crate::arguments::number;
+use crate::doors;
 use crate::messages::content;
 use crate::messages::say_written;
 use crate::messages::signed;
-use crate::out::say_letter;
+use crate::names;
 use crate::sheets;
 use fields::raw::write_raw;
 use frame::direction::Direction;
@@ -16,22 +20,12 @@ use message_write::write::write_message;
 use row::profile::NamedProfile;
 use row::profile::Profile;
 use sheetfile::write::SheetWritten;
-use words::arguments::argument;
-use words::arguments::byte;
-use words::arguments::number;
-use words::names;
 
 pub(crate) fn operate(operation: usize, space: &[u8], ends: [usize; 14]) {
     let mut room = [0xAAu8; 4096];
     let place = length_place(operation);
-    let length = (number(space, ends, place) % 4097) as usize;
+    let length = shorter(number(space, ends, place));
     let spot = number(space, ends, std::num::wrapping_add_usize(place, 1)) as usize;
-    if operation == names::WRITE {
-        if !is_written(space, ends) {
-            say_letter(b'?');
-            return;
-        }
-    }
     if is_sheet(operation) {
         sheet_written(operation, space, ends, &mut room, length, spot);
         return;
@@ -73,6 +67,14 @@ fn sheet_written(
     sheets::say_written(written, lent::part::last_bytes(room, length))
 }
 
+// A length of at most the room's.
+pub(crate) fn shorter(length: u64) -> usize {
+    if length > 4096 {
+        return 4096;
+    }
+    length as usize
+}
+
 // Which argument the length is.
 fn length_place(operation: usize) -> usize {
     if operation == names::DECIMAL {
@@ -87,11 +89,12 @@ fn length_place(operation: usize) -> usize {
     2
 }
 
+// Those that write sheets stand together.
 fn is_sheet(operation: usize) -> bool {
-    if operation == names::COPY {
-        return true;
+    if operation < names::COPY {
+        return false;
     }
-    operation == names::RUN
+    operation <= names::DOORRUN
 }
 
 fn write_sheet(
@@ -102,11 +105,14 @@ fn write_sheet(
     spot: usize,
 ) -> SheetWritten {
     let letter = byte(space, ends, 1);
-    let file = argument(space, ends, 4);
+    let bytes = argument(space, ends, 4);
     if operation == names::COPY {
-        return sheetfile_code::by_letter::copy_file(letter, file, buf, spot);
+        return sheetfile_code::by_letter::copy_file(letter, bytes, buf, spot);
     }
-    sheetfile_code::by_letter::run_of_file(letter, file, buf, spot)
+    if operation == names::RUN {
+        return sheetfile_code::by_letter::run_of_file(letter, bytes, buf, spot);
+    }
+    doors::written(operation, letter, bytes, buf, spot)
 }
 
 fn write(
@@ -211,19 +217,4 @@ fn message_of(space: &[u8], ends: [usize; 14]) -> Message {
         return Message::Command(said);
     }
     Message::Status(said)
-}
-
-// Whether a `write` has a kind and a form.
-pub(crate) fn is_written(space: &[u8], ends: [usize; 14]) -> bool {
-    let kind = byte(space, ends, 4);
-    if kind == b'D' {
-        return true;
-    }
-    if byte(space, ends, 8) > 8 {
-        return false;
-    }
-    if kind == b'C' {
-        return true;
-    }
-    kind == b'S'
 }

@@ -5,7 +5,7 @@ use Rattle.drive.proofs.frames.parts.Statement.{statement}
 use Rattle.drive.proofs.frames.parts.Tie as tie
 
 abbrev Inv-loop : tie.InvT-loop
-Inv-loop space ends count reader₀ i₀ reader i = i ≤ count
+Inv-loop space ends count reader₀ i₀ reader i = 2 ≤ i
 
 abbrev μ-loop : tie.MeasureT-loop
 μ-loop space ends count reader₀ i₀ reader i = count - i
@@ -16,11 +16,11 @@ new-requires c κs = search needs
 loop-holds : tie.Need-loop-holds Inv-loop μ-loop
 loop-holds c = search needs
 
-wrapping-add-usize-requires : tie.Need-wrapping-add-usize-requires Inv-loop μ-loop
-wrapping-add-usize-requires c κs = search needs
-
 argument-requires : tie.Need-argument-requires Inv-loop μ-loop
 argument-requires c κs = search needs
+
+sub-space-before : tie.Need-sub-space-before Inv-loop μ-loop
+sub-space-before c = search needs
 
 space-before-requires : tie.Need-space-before-requires Inv-loop μ-loop
 space-before-requires c κs = search needs
@@ -51,8 +51,8 @@ parts-spec =
     μ-loop
     new-requires
     loop-holds
-    wrapping-add-usize-requires
     argument-requires
+    sub-space-before
     space-before-requires
     part-requires
     take-part-requires

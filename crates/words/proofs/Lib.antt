@@ -1,3 +1,0 @@
--- Proofs about the words of a line.
-pub mod Laws
-pub mod OneAnswer
