@@ -71,7 +71,28 @@ done < <(for request in "${landed[@]}"; do part "$request" Edits | cited | grep 
 # What a page names is there, or it is gone: by a line under Gone, there or in a later page, that begins with it, or with
 # its file, a folder above that, or its crate in crates.txt. What is under Gone is not there, unless a later page brings it
 # back. So the newest page is read first.
-gone=() # of the pages read so far
+# Before all pages comes what docs/changes/README.md has under Since: crates that were cut, and what is gone.
+since() { sed -n '/^## Since/,$p' docs/changes/README.md; }
+mapfile -t gone < <(since | grep -oE '^- `[^`]*/[^`]+`' | cited) # and of the pages read so far
+for name in "${gone[@]}"; do
+    ! stands "$name"
+    told $? "docs/changes/README.md says that $name is gone, and it is there"
+done
+while read -r line; do
+    while read -r name; do
+        stands "crates.txt: $name"
+        told $? "docs/changes/README.md says that a crate was cut, and there is no $name"
+    done < <(cited <<< "$line")
+done < <(since | grep -E '^- `[a-z_]+`:')
+# whether what is cited stands in a crate that was cut from its own
+stands_apart() { # NAME
+    local other
+    [[ $1 == */* ]] || return
+    while read -r other; do
+        stands "$other/${1#*/}" && return
+    done < <(since | sed -n "s/^- \`${1%%/*}\`: //p" | grep -oE '`[a-z_]+`' | tr -d '`')
+    return 1
+}
 later=()
 among() { printf '%s\n' "${@:2}" | grep -qxF -- "$1"; }
 is_gone() { # NAME
@@ -91,7 +112,7 @@ for ((i = ${#landed[@]} - 1; i >= 0; i--)); do
     mapfile -t named < <(grep -v '^> ' "$page" | cited | grep -vxF -f <(printf '%s\n' "${left[@]:-/}"))
     gone+=("${left[@]}")
     for name in "${named[@]}"; do
-        stands "$name" || is_gone "$name"
+        stands "$name" || stands_apart "$name" || is_gone "$name"
         told $? "$page names $name, which is not there, and no page says that it is gone"
     done
     for name in "${left[@]}"; do

@@ -12,7 +12,8 @@ use Rattle.row.specs.declared.profile.Profile.{Profile}
 use Rattle.row.specs.declared.table.Row.{Row}
 use Rattle.message.specs.Message.{readRules, readOf, frameRead, deniedIn}
 use Rattle.message.specs.Write.{writeRules, messageFrame, fieldsFrame}
-use Rattle.message.specs.Content.{encodedOf}
+use Rattle.message.specs.Content.{contentOf, encodedOf, encodedData, sizeOf, isForm}
+use Rattle.judging.specs.Judge.{valueRefusal}
 use Rattle.message.specs.declared.content.Content.{Content}
 use Rattle.message.specs.declared.read.Message.{Message}
 
@@ -27,8 +28,21 @@ pub denied-data-one : (profile : Profile) (direction : Direction) (bytes : List 
     → OneAnswer (λ x. x ≡ deniedIn (frameRead profile direction bytes) (dataOf direction bytes))
 denied-data-one profile direction bytes = one (deniedIn (frameRead profile direction bytes) (dataOf direction bytes))
 
+pub content-of-one : (direction : Direction) (row : Row) (body : List ℕ) → OneAnswer (λ x. x ≡ contentOf direction row body)
+content-of-one direction row body = one (contentOf direction row body)
+
 pub encode-one : (row : Row) (content : Content) → OneAnswer (λ x. x ≡ encodedOf row content)
 encode-one row content = one (encodedOf row content)
+
+pub size-of-one : (content : Content) → OneAnswer (λ x. x ≡ sizeOf content)
+size-of-one content = one (sizeOf content)
+
+pub is-form-one : (direction : Direction) (row : Row) (content : Content) → OneAnswer (λ x. x ≡ isForm direction row content)
+is-form-one direction row content = one (isForm direction row content)
+
+pub form-refusal-one : (direction : Direction) (row : Row) (content : Content)
+    → OneAnswer (λ x. x ≡ valueRefusal direction row (encodedData (encodedOf row content)))
+form-refusal-one direction row content = one (valueRefusal direction row (encodedData (encodedOf row content)))
 
 pub write-message-one : (profile : Profile) (buf : List ℕ) (at : ℕ) (message : Message) (body : List ℕ)
     → OneAnswer (λ (x : Written × List ℕ). (x .0 ≡ writeAnswered (writeRules profile message body) buf at (messageFrame profile message body)) × (x .1 ≡ writeLeft (writeRules profile message body) buf at (messageFrame profile message body)))

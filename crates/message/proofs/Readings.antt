@@ -45,12 +45,6 @@ ruled-map {A} {B} h (r ∷ rs) refuse accepted = go (r .applies) (ruled-map h rs
     go false rest = rest
 
 module _ (profile : Profile) (dir : Direction) (zone command : ℕ) (body : List ℕ) where
-  -- what is judged legal has data
-  pub legal-some : (row : Row) → judgedOf profile dir zone command body ≡ judged.Legal row → 0 < length body
-  legal-some row e =
-      let passed = judge-passes profile dir zone command body (judged-passes profile dir zone command body row e .0) in
-      length-some dir (passed .row) (length body) (passed .long)
-
   -- a message of what is said, as it is judged
   module _ (form : Said → Message) where
     abbrev formed : Judged → Reading
