@@ -5,11 +5,13 @@ mod messages;
 mod sheets;
 
 use crate::frame::Direction;
-use crate::operations::WORDS;
 use crate::random::Random;
 use crate::rows::{Profile, ROWS};
 use crate::samples::{self, DIRECTIONS, PROFILES};
 use crate::text;
+
+/// Longer lines are given no odd form.
+const ODD_LIMIT: usize = 3_000;
 
 /// One case of so many has a capture at the limit.
 const LIMIT_EVERY: usize = 400;
@@ -32,7 +34,7 @@ impl Cases {
         if index % LIMIT_EVERY == LIMIT_EVERY / 4 {
             self.limit_case(index / LIMIT_EVERY);
         } else {
-            match self.random.below(100) {
+            match self.random.below(103) {
                 0..=23 => self.capture_case(),
                 24..=47 => self.message_case(),
                 48..=52 => self.signed_case(),
@@ -42,7 +44,7 @@ impl Cases {
                 71..=75 => self.long_sheet_case(),
                 76..=87 => self.history_case(),
                 88..=97 => self.small_case(),
-                _ => self.no_operation_case(),
+                _ => self.odd_case(),
             }
         }
         std::mem::take(&mut self.lines)
@@ -105,7 +107,12 @@ impl Cases {
             20 => (fits, u64::MAX - self.random.below(300) as u64),
             // Place and need together would be one over the greatest number.
             21 => (fits, u64::MAX - (need as u64).saturating_sub(1)),
-            22 if self.random.percent(20) => (4_096, (4_096 - need) as u64),
+            // At the end of the longest buffer, which a greater length has too.
+            22 if self.random.percent(25) => {
+                let length = *self.random.pick(&[4_096, 4_096, 4_097, 65_536, usize::MAX]);
+                let past = usize::from(self.random.percent(20));
+                (length, (4_096 - need + past) as u64)
+            }
             22 => (0, 0),
             _ => (fits + 1, before as u64 + 1),
         };
@@ -154,34 +161,66 @@ impl Cases {
         }
     }
 
-    /// Lines that print `?`.
-    fn no_operation_case(&mut self) {
-        let word = *self.random.pick(&WORDS);
-        let line = match self.random.below(22) {
-            0 => String::new(),
-            1 => word.to_string(),
-            2 => word.to_uppercase() + " 41 43",
-            3 => format!("{word} 41 43 01 02 03 04 05 06 07 08 09 0A 0B 0C 0D"),
-            4 => "feed 43".to_string(),
-            5 => "feed 43 210".to_string(),
-            6 => "feed 43 21  01".to_string(),
-            7 => "feed 43 21 ".to_string(),
-            8 => "feed 43 2G".to_string(),
-            9 => " feed 43 21".to_string(),
-            10 => "feed - 21".to_string(),
-            11 => "totals 4343 21".to_string(),
-            12 => "event 43 000000000000000000 21".to_string(),
-            13 => "raw 43 1001 00 01 02 00 -".to_string(),
-            14 => "code 05".to_string(),
-            15 => "plain 000005".to_string(),
-            16 => "read 41 43 0001 3A 00 85".to_string(),
-            17 => "write 41 10 - 58 01 3A 00 07 0001 00 -".to_string(),
-            18 => "write 41 10 - 43 01 3A 00 09 0001 00 -".to_string(),
-            19 => "write 58 10 - 43 01 3A 00 07 01 00 -".to_string(),
-            20 => "parts 43 01 02 03 04 05 06 07 08 09 0A 0B 0C 0D".to_string(),
-            _ => "pieces 1001 4143".to_string(),
-        };
-        self.lines.push(line);
+    /// The lines of another case, each in an odd form.
+    fn odd_case(&mut self) {
+        match self.random.below(6) {
+            0 => self.capture_case(),
+            1 => self.message_case(),
+            2 => self.signed_case(),
+            3 => self.sheet_case(),
+            4 => self.history_case(),
+            _ => self.small_case(),
+        }
+        for line in std::mem::take(&mut self.lines) {
+            if line.len() <= ODD_LIMIT {
+                let line = self.odd(&line);
+                self.lines.push(line);
+            }
+        }
+    }
+
+    /// A line in an odd form; only with another word it is no operation.
+    fn odd(&mut self, line: &str) -> String {
+        let mut words: Vec<String> = line.split(' ').map(str::to_string).collect();
+        let place = self.random.between(1, words.len() - 1);
+        let argument = &mut words[place];
+        match self.random.below(10) {
+            // Arguments that are missing, or all the line, and too many, also for `parts`.
+            0 => words.truncate(place - usize::from(self.random.percent(20))),
+            1 => {
+                for _ in 0..*self.random.pick(&[1, 2, 13]) {
+                    words.push(self.random.pick(&["41", "-", "", "210"]).to_string());
+                }
+            }
+            // One of no bytes, with two spaces or a `-`.
+            2 => words.insert(place, String::new()),
+            3 => *argument = self.random.pick(&["", "-"]).to_string(),
+            // Characters that are next to the digits, and more digits or one less.
+            4 => {
+                let strays = ['-', '/', ':', '@', 'G', '`', 'g', '~', '#'];
+                let at = self.random.between(0, argument.len());
+                argument.insert(at, *self.random.pick(&strays));
+            }
+            5 => argument.push(*self.random.pick(&['0', '7', 'A', 'f'])),
+            6 => drop(argument.pop()),
+            // Bytes before those that count.
+            7 => {
+                let count = self.random.between(1, 9);
+                let more = self.random.bytes(count);
+                argument.insert_str(0, &text::hex(&more));
+            }
+            8 => argument.make_ascii_lowercase(),
+            _ => {
+                let word = &mut words[0];
+                match self.random.below(4) {
+                    0 => word.make_ascii_uppercase(),
+                    1 => word.push(*self.random.pick(&['s', 'x', '-', '0'])),
+                    2 => drop(word.pop()),
+                    _ => words.insert(0, String::new()),
+                }
+            }
+        }
+        words.join(" ")
     }
 }
 
@@ -190,6 +229,60 @@ mod tests {
     use super::*;
     use crate::operations;
     use crate::tally::{Kind, Tally};
+
+    #[test]
+    fn odd_lines_come_in_every_form() {
+        let mut cases = Cases::new(7);
+        let mut lines = Vec::new();
+        for _ in 0..1_500 {
+            cases.odd_case();
+            lines.append(&mut cases.lines);
+        }
+        let split: Vec<Vec<&str>> = lines.iter().map(|line| line.split(' ').collect()).collect();
+        // The arguments of each line with that word.
+        let of = |word: &'static str| {
+            let mine = split.iter().filter(move |words| words[0] == word);
+            mine.map(|words| &words[1..])
+        };
+        for (word, count) in [("parts", 12), ("write", 11), ("sign", 3), ("doorsign", 3)] {
+            assert!(of(word).any(|arguments| arguments.is_empty()), "{word}");
+            assert!(of(word).any(|arguments| arguments.len() == 1), "{word}");
+            assert!(
+                of(word).any(|arguments| arguments.len() > count + 1),
+                "{word}"
+            );
+        }
+        for word in [
+            "feed", "read", "check", "doorlist", "doorfile", "dooroff", "doorcell", "doorfeed",
+        ] {
+            let comes = |is_it: fn(&str) -> bool| {
+                assert!(
+                    of(word).any(|arguments| arguments.iter().any(|it| is_it(it))),
+                    "{word}"
+                );
+            };
+            comes(|argument| argument.is_empty());
+            comes(|argument| argument.len() > 1 && argument.contains('-'));
+            comes(|argument| argument.contains(['/', ':', '@', 'G', '`', 'g']));
+            comes(|argument| argument.len() > 1 && argument.len() % 2 == 1);
+            comes(|argument| argument.contains(['a', 'b', 'c', 'd', 'e', 'f']));
+        }
+        // Bytes before those that count: of a number, a NUMBER and a single byte.
+        for (word, place, digits) in [
+            ("event", 1, 16),
+            ("write", 8, 4),
+            ("code", 0, 4),
+            ("doorfeed", 0, 2),
+        ] {
+            let mut arguments = of(word).filter_map(|arguments| arguments.get(place));
+            assert!(
+                arguments.any(|argument| argument.len() > digits + 1),
+                "{word}"
+            );
+        }
+        assert!(of("").any(|arguments| !arguments.is_empty()));
+        assert!(of("FRAME").any(|arguments| !arguments.is_empty()));
+    }
 
     #[test]
     fn a_case_of_empty_sheets_brings_both_kinds_of_runs() {

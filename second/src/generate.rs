@@ -46,6 +46,7 @@ pub fn generate(seed: u64, count: usize, mut ops: impl Write) -> io::Result<(Str
 #[cfg(test)]
 mod tests {
     use super::*;
+    use crate::operations::{BUFFER_LIMIT, LINE_LIMIT};
     use crate::rows::Profile;
     use crate::sheet::{self, Line, RECORD};
     use crate::text;
@@ -123,10 +124,13 @@ mod tests {
             comes(&format!("listing {p}52"), &answer, "", &listed);
             let cell = format!(" {command}");
             comes(&format!("cell {p} "), &answer, &cell, "value 00");
+            comes(&format!("doorcell {p} "), &answer, &cell, "value 00");
+            comes(&format!("doorfeed {p} "), "", &ended, "number 0 ; value 00");
             let legal = format!(" {command} 80");
             comes(&format!("legal {p} "), "", &legal, "not legal");
             let record = format!("{command}80");
             comes(&format!("check {p} 534C"), &record, "", "refused 7 at 0");
+            comes(&format!("doorlist {p} "), &record, "", "refused 7 at 0");
             let frame = format!("{command}01800D");
             let (read, sent, listed) = match p {
                 "41" => ("number 0", "01000D", format!(" {command} - 0\n")),
@@ -139,13 +143,15 @@ mod tests {
         }
         for command in ["3A", "45", "46"] {
             // A sheet's 00, where nothing but 80 was answered.
-            let record_and_answer = format!("{command}00 2101{command}0001800D");
-            let signed = lines.iter().any(|line| {
-                line.starts_with("sign 41 534C4101")
-                    && line.ends_with(&record_and_answer)
-                    && print(line) == "signed\n"
-            });
-            assert!(signed, "{command}");
+            let line_and_answer = format!("{command}00 2101{command}0001800D");
+            for start in ["sign 41 534C4101", "doorsign 41 01", "dooroff 41 01"] {
+                let signed = lines.iter().any(|line| {
+                    line.starts_with(start)
+                        && line.ends_with(&line_and_answer)
+                        && print(line) == "signed\n"
+                });
+                assert!(signed, "{start} {command}");
+            }
         }
     }
 
@@ -158,8 +164,13 @@ mod tests {
                 ("copy", format!("bytes {} ", 6 * full)),
                 ("run", format!("bytes {} ", 255 + 6 * full)),
                 ("sign", "signed".to_string()),
+                ("doorlist", "accepted".to_string()),
+                ("doorfile", format!("bytes {} ", 6 * full)),
+                ("doorrun", format!("bytes {} ", 255 + 6 * full)),
+                ("doorsign", "signed".to_string()),
+                ("dooroff", "signed".to_string()),
             ] {
-                // The lines of each sheet file, and what the operation printed.
+                // The lines of each sheet, and what the operation printed.
                 let sheets: Vec<(Vec<Line>, String)> = lines
                     .iter()
                     .filter(|line| line.starts_with(&format!("{word} {p} ")))
@@ -202,22 +213,45 @@ mod tests {
                 }
                 // 10 at a record past the limit comes before 6.
                 let past = |printed: &str| place(printed, 10).is_some_and(|place| place >= 24);
-                assert!(of_size(25..=300).any(|(_, printed)| past(printed)));
+                let in_a_file = !word.starts_with("door");
+                assert_eq!(
+                    of_size(25..=300).any(|(_, printed)| past(printed)),
+                    in_a_file
+                );
             }
         }
     }
 
     #[test]
-    fn runs_come_to_the_ends_of_their_buffers() {
+    fn files_and_runs_come_to_the_ends_of_their_buffers() {
         let lines = enough_lines();
-        for (p, profile) in [("41", Profile::A), ("53", Profile::S)] {
-            // Of accepted sheets: the run's length, the room for it, and what was printed.
+        let run_length = |count: usize| sheet::run_length(count);
+        let file_length = |count: usize| RECORD * count;
+        let of_file = |profile, file: &[u8]| sheet::read_file(profile, file).ok();
+        let of_list = |profile, list: &[u8]| {
+            let lines = sheet::lines_of(list);
+            sheet::check(profile, &lines).ok().map(|()| lines)
+        };
+        type Length = fn(usize) -> usize;
+        type Accepted = fn(Profile, &[u8]) -> Option<Vec<Line>>;
+        let writings: [(&str, Length, Accepted); 4] = [
+            ("copy", file_length, of_file),
+            ("run", run_length, of_file),
+            ("doorfile", file_length, of_list),
+            ("doorrun", run_length, of_list),
+        ];
+        let families = [("41", Profile::A), ("53", Profile::S)];
+        let all = writings
+            .into_iter()
+            .flat_map(|writing| families.map(|family| (writing, family)));
+        for ((word, length, accepted), (p, profile)) in all {
+            // Of accepted sheets: the bytes needed, the room for them, and what was printed.
             let runs: Vec<(i128, i128, String)> = lines
                 .iter()
                 .filter_map(|line| {
-                    let (room, file) = room(line.strip_prefix(&format!("run {p} "))?)?;
-                    let count = sheet::read_file(profile, &file).ok()?.len();
-                    Some((sheet::run_length(count) as i128, room, print(line)))
+                    let (room, sheet) = room(line.strip_prefix(&format!("{word} {p} "))?)?;
+                    let count = accepted(profile, &sheet)?.len();
+                    Some((length(count) as i128, room, print(line)))
                 })
                 .collect();
             let comes = |empty: bool, is_so: fn(i128, i128) -> bool, prints: fn(i128) -> String| {
@@ -229,43 +263,47 @@ mod tests {
             let written = |need| format!("bytes {need} : ");
             let refused = |_| "refused 9 at 0 : ".to_string();
             for empty in [false, true] {
-                assert!(comes(empty, |need, room| room == need, written));
-                assert!(comes(empty, |need, room| room > need, written));
+                assert!(comes(empty, |need, room| room == need, written), "{word}");
+                assert!(comes(empty, |need, room| room > need, written), "{word}");
                 // One past the end, and as far past it as a number goes.
-                assert!(comes(empty, |_, room| room == -1, refused));
-                assert!(comes(empty, |_, room| room < -(1 << 63), refused));
+                assert!(comes(empty, |_, room| room == -1, refused), "{word}");
+                assert!(comes(empty, |_, room| room < -(1 << 63), refused), "{word}");
             }
             // One too few, and a place at the end.
-            assert!(comes(false, |need, room| room == need - 1, refused));
-            assert!(comes(false, |_, room| room == 0, refused));
+            assert!(
+                comes(false, |need, room| room == need - 1, refused),
+                "{word}"
+            );
+            assert!(comes(false, |_, room| room == 0, refused), "{word}");
         }
     }
 
-    /// The room from a place on, less than none past the end, and the file of a writing on sheets.
+    /// The room from a place on, less than none past the end, and the sheet that is written.
     fn room(arguments: &str) -> Option<(i128, Vec<u8>)> {
-        let arguments: Option<Vec<Vec<u8>>> = arguments
+        let arguments: Vec<Vec<u8>> = arguments
             .split(' ')
             .map(|argument| text::bytes(argument.as_bytes()))
             .collect();
-        let [length, place, file] = arguments?.try_into().ok()?;
-        let room = i128::from(text::number(&length)?) - i128::from(text::number(&place)?);
-        Some((room, file))
+        let [length, place, sheet] = arguments.try_into().ok()?;
+        let length = text::number(&length).min(BUFFER_LIMIT);
+        Some((i128::from(length) - i128::from(text::number(&place)), sheet))
     }
 
-    /// The lines of an operation's sheet file, whatever its marks are.
+    /// The lines of an operation's sheet, whatever the marks of its file are.
     fn lines_of(operation: &str) -> Option<Vec<Line>> {
         let arguments: Vec<&str> = operation.split(' ').collect();
         let file = match *arguments {
             ["check", _, file] | ["sign", _, file, _] => file,
             ["copy" | "run", _, _, _, file] => file,
+            ["doorlist", _, list]
+            | ["doorsign" | "dooroff", _, list, _]
+            | ["doorfile" | "doorrun", _, _, _, list] => {
+                return Some(sheet::lines_of(&text::bytes(list.as_bytes())));
+            }
             _ => return None,
         };
-        let line = |record: &[u8]| Line {
-            zone: record[3],
-            command: record[4],
-            value: record[5],
-        };
-        let file = text::bytes(file.as_bytes())?;
+        let line = |record: &[u8]| Line::of(record[3], record[4], record[5]);
+        let file = text::bytes(file.as_bytes());
         Some(file.chunks_exact(RECORD).map(line).collect())
     }
 
@@ -273,6 +311,69 @@ mod tests {
     fn place(printed: &str, number: u8) -> Option<usize> {
         let rest = printed.strip_prefix(&format!("refused {number} at "))?;
         rest.split_whitespace().next()?.parse().ok()
+    }
+
+    #[test]
+    fn doors_bring_every_refusal_and_cell() {
+        let lines = enough_lines();
+        let comes = |word: &str, prints: &str| {
+            let start = format!("{word} ");
+            let mut found = lines.iter().filter(|line| line.starts_with(&start));
+            assert!(
+                found.any(|line| print(line).starts_with(prints)),
+                "{word}: {prints}"
+            );
+        };
+        for word in ["doorlist", "doorfile", "doorrun", "doorsign", "dooroff"] {
+            for number in [6, 7, 8, 12] {
+                comes(word, &format!("refused {number} at "));
+            }
+        }
+        for word in ["doorsign", "dooroff"] {
+            comes(word, "refused 11 at 0");
+        }
+        for prints in ["value ", "unknown", "no cell", "refused 11", "refused 12"] {
+            comes("doorcell", prints);
+        }
+        for number in [1, 2, 3, 4, 5] {
+            comes("doorfeed", &format!("refused {number} ; "));
+        }
+        comes("doorfeed", "refused 12\n");
+        let ends = |prints: &str, end: &str| {
+            let mut fed = lines.iter().filter(|line| line.starts_with("doorfeed "));
+            let is_it = |printed: String| printed.starts_with(prints) && printed.ends_with(end);
+            assert!(fed.any(|line| is_it(print(line))), "{prints}..{end}");
+        };
+        for cell in ["unknown\n", "no cell\n"] {
+            ends("denied ", cell);
+            ends("refused ", cell);
+        }
+        // S 0F is read and has no cell.
+        ends("status 1 0F input ", "no cell\n");
+    }
+
+    #[test]
+    fn lengths_kinds_and_forms_come_past_their_ends() {
+        let lines = enough_lines();
+        // The numbers at a place of an operation's arguments.
+        let numbers = |word: &str, place: usize| -> BTreeSet<u64> {
+            let mine = lines.iter().map(|line| line.split(' '));
+            let mine = mine
+                .filter_map(|mut words| (words.next() == Some(word)).then(|| words.nth(place))?);
+            mine.map(|argument| text::number(&text::bytes(argument.as_bytes())))
+                .collect()
+        };
+        for word in ["write", "copy", "run", "doorfile", "doorrun"] {
+            let over = numbers(word, 1)
+                .into_iter()
+                .filter(|&length| length > BUFFER_LIMIT);
+            assert!(over.count() >= 2, "{word}");
+        }
+        assert!(numbers("write", 3).is_superset(&[0x00, 0x41, 0x52, 0x63, 0xFF].into()));
+        assert!(numbers("write", 7).is_superset(&[0x09, 0x7F, 0xFF].into()));
+        for length in LINE_LIMIT - 1..=LINE_LIMIT + 2 {
+            assert!(lines.iter().any(|line| line.len() == length), "{length}");
+        }
     }
 
     #[test]

@@ -138,7 +138,7 @@ mod tests {
 
     fn print(letters: &[u8], hex: &str) -> String {
         let mut input = letters.to_vec();
-        input.extend(text::bytes(hex.as_bytes()).unwrap());
+        input.extend(text::bytes(hex.as_bytes()));
         program(&input)
     }
 

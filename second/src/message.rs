@@ -168,7 +168,7 @@ mod tests {
             (A, Answer, "2101388101020D", Refused(5)),
         ];
         for (profile, direction, hex, is) in bench {
-            let frame_bytes = text::bytes(hex.as_bytes()).unwrap();
+            let frame_bytes = text::bytes(hex.as_bytes());
             let frame = Frame::of(direction, &frame_bytes).unwrap();
             let message = read(profile, direction, frame);
             match is {

@@ -12,22 +12,24 @@ use crate::rows::{self, Profile};
 use crate::sheet::{self, Fault, Line};
 use crate::tally::{Kind, Tally, NO_OPERATION};
 use crate::text;
+use sheets::Sheet;
 
 /// Every operation's word, in the document's order.
-pub const WORDS: [&str; 30] = [
+pub const WORDS: [&str; 37] = [
     "feed", "parts", "events", "event", "totals", "fields", "part", "last", "frame", "read",
     "write", "send", "raw", "number", "code", "plain", "row", "legal", "check", "copy", "run",
-    "sign", "cell", "listing", "pieces", "all", "pairs", "codes", "decimal", "hex",
+    "sign", "cell", "listing", "pieces", "all", "pairs", "codes", "decimal", "hex", "doorlist",
+    "doorfile", "doorrun", "doorsign", "dooroff", "doorcell", "doorfeed",
 ];
 
-/// The most characters of a line, its line feed not counted.
-pub const LINE_LIMIT: usize = 262_143;
+/// How many characters of a line are taken, its line feed not counted.
+pub const LINE_LIMIT: usize = 262_144;
 
 /// The most bytes of a buffer.
 pub const BUFFER_LIMIT: u64 = 4_096;
 
-/// The most parts of `parts`.
-const PARTS_LIMIT: usize = 12;
+/// How many arguments of a line are taken.
+pub const ARGUMENTS: usize = 13;
 
 /// A refusal's number, and a sheet's place where one is printed.
 struct Refusal {
@@ -111,123 +113,122 @@ pub fn run(line: &[u8], printed: &mut String, tally: &mut Tally) {
     printed.push('\n');
 }
 
-/// The reply to a line; none where it prints `?`.
+/// The reply to a line; none where its word is unknown.
 fn reply(line: &[u8], tally: &mut Tally) -> Option<Reply> {
-    if line.len() > LINE_LIMIT {
-        return None;
-    }
+    let line = &line[..line.len().min(LINE_LIMIT)];
     let mut parts = line.split(|&character| character == b' ');
     let word = parts.next()?;
     let word = WORDS.iter().find(|known| known.as_bytes() == word)?;
-    let arguments: Vec<Vec<u8>> = parts.map(text::bytes).collect::<Option<_>>()?;
-    let arguments: Vec<&[u8]> = arguments.iter().map(Vec::as_slice).collect();
-    let reply = match (*word, arguments.as_slice()) {
-        ("feed", [d, bytes]) => captures::feed(one(d)?, bytes).into(),
-        ("parts", [d, parts @ ..]) if (1..=PARTS_LIMIT).contains(&parts.len()) => {
-            captures::parts_of(one(d)?, parts).into()
+    let given: Vec<Vec<u8>> = parts.take(ARGUMENTS).map(text::bytes).collect();
+    // One that is not there is no bytes.
+    let arguments: [&[u8]; ARGUMENTS] =
+        std::array::from_fn(|index| given.get(index).map_or(&[][..], Vec::as_slice));
+    let reply = match (*word, arguments) {
+        ("feed", [d, bytes, ..]) => captures::feed(one(d), bytes).into(),
+        ("parts", [d, ..]) => captures::parts_of(one(d), given.get(1..).unwrap_or_default()).into(),
+        ("events", [d, bytes, ..]) => captures::events(one(d), bytes, tally).into(),
+        ("event", [d, place, bytes, ..]) => {
+            captures::event(one(d), text::number(place), bytes, tally).into()
         }
-        ("events", [d, bytes]) => captures::events(one(d)?, bytes, tally).into(),
-        ("event", [d, place, bytes]) => {
-            captures::event(one(d)?, text::number(place)?, bytes, tally).into()
+        ("totals", [d, bytes, ..]) => captures::totals(one(d), bytes).into(),
+        ("fields", [d, bytes, ..]) => captures::fields(one(d), bytes).into(),
+        ("part", [place, count, bytes, ..]) => {
+            let (place, count) = (text::number(place), text::number(count));
+            Ok(captures::part(place, count, bytes)).into()
         }
-        ("totals", [d, bytes]) => captures::totals(one(d)?, bytes).into(),
-        ("fields", [d, bytes]) => captures::fields(one(d)?, bytes).into(),
-        ("part", [place, count, bytes]) => Ok(captures::part(
-            text::number(place)?,
-            text::number(count)?,
-            bytes,
-        ))
-        .into(),
-        ("last", [count, bytes]) => Ok(captures::last(text::number(count)?, bytes)).into(),
-        ("frame", [p, d, bytes]) => messages::frame_message(one(p)?, one(d)?, bytes, tally).into(),
-        ("read", [p, d, zone, command, ac, data]) => {
-            let frame = frame_of(one(zone)?, one(command)?, one(ac)?, data);
-            messages::read(one(p)?, one(d)?, frame, tally).into()
+        ("last", [count, bytes, ..]) => Ok(captures::last(text::number(count), bytes)).into(),
+        ("frame", [p, d, bytes, ..]) => {
+            messages::frame_message(one(p), one(d), bytes, tally).into()
+        }
+        ("read", [p, d, zone, command, ac, data, ..]) => {
+            let frame = frame_of(one(zone), one(command), one(ac), data);
+            messages::read(one(p), one(d), frame, tally).into()
         }
         ("write", [p, length, place, rest @ ..]) => {
-            let message = messages::said(rest)?;
-            messages::write(one(p)?, size(length)?, text::number(place)?, message)
+            let message = messages::said(rest);
+            messages::write(one(p), size(length), text::number(place), message)
         }
-        ("send", [p, d, length, place, zone, command, ac, data]) => {
-            let frame = frame_of(one(zone)?, one(command)?, one(ac)?, data);
-            messages::send(one(p)?, one(d)?, size(length)?, text::number(place)?, frame)
+        ("send", [p, d, length, place, zone, command, ac, data, ..]) => {
+            let frame = frame_of(one(zone), one(command), one(ac), data);
+            messages::send(one(p), one(d), size(length), text::number(place), frame)
         }
-        ("raw", [d, length, place, zone, command, ac, data]) => {
-            let frame = frame_of(one(zone)?, one(command)?, one(ac)?, data);
-            messages::raw(one(d)?, size(length)?, text::number(place)?, frame)
+        ("raw", [d, length, place, zone, command, ac, data, ..]) => {
+            let frame = frame_of(one(zone), one(command), one(ac), data);
+            messages::raw(one(d), size(length), text::number(place), frame)
         }
-        ("number", [code]) => Ok(rows::number_of(one(code)?).to_string()).into(),
-        ("code", [number]) => Ok(messages::code(rows::signed_code(signed(number)?))).into(),
-        ("plain", [number]) => Ok(messages::code(rows::plain_code(signed(number)?))).into(),
-        ("row", [p, command]) => messages::row(one(p)?, one(command)?).into(),
-        ("legal", [p, zone, command, value]) => {
-            let line = Line {
-                zone: one(zone)?,
-                command: one(command)?,
-                value: one(value)?,
-            };
-            sheets::legal(one(p)?, line).into()
+        ("number", [code, ..]) => Ok(rows::number_of(one(code)).to_string()).into(),
+        ("code", [number, ..]) => Ok(messages::code(rows::signed_code(signed(number)))).into(),
+        ("plain", [number, ..]) => Ok(messages::code(rows::plain_code(signed(number)))).into(),
+        ("row", [p, command, ..]) => messages::row(one(p), one(command)).into(),
+        ("legal", [p, zone, command, value, ..]) => {
+            let line = Line::of(one(zone), one(command), one(value));
+            sheets::legal(one(p), line).into()
         }
-        ("check", [p, file]) => sheets::check(one(p)?, file, tally).into(),
-        ("copy", [p, length, place, file]) => {
-            let place = text::number(place)?;
-            sheets::sheet_bytes(one(p)?, size(length)?, place, file, sheet::file, tally)
+        ("check", [p, file, ..]) => sheets::check(one(p), file, tally).into(),
+        ("copy", [p, length, place, file, ..]) => {
+            let (place, file) = (text::number(place), Sheet::File(file));
+            sheets::sheet_bytes(one(p), size(length), place, file, sheet::file, tally)
         }
-        ("run", [p, length, place, file]) => {
-            sheets::run(one(p)?, size(length)?, text::number(place)?, file, tally)
+        ("run", [p, length, place, file, ..]) => {
+            sheets::run(one(p), size(length), text::number(place), file, tally)
         }
-        ("sign", [p, file, capture]) => sheets::sign(one(p)?, file, capture, tally).into(),
-        ("cell", [p, capture, zone, command]) => {
-            sheets::cell(one(p)?, capture, one(zone)?, one(command)?).into()
+        ("sign", [p, file, capture, ..]) => {
+            sheets::sign(one(p), Sheet::File(file), capture, tally).into()
         }
-        ("listing", [input]) => captures::list(input, None, tally).into(),
-        ("pieces", [length, input]) => captures::list(input, Some(size(length)?), tally).into(),
-        ("all", [p, d]) => messages::all(one(p)?, one(d)?).into(),
-        ("pairs", [d]) => messages::pairs(one(d)?).into(),
-        ("codes", [p, zone, command, data]) => {
-            messages::codes(one(p)?, one(zone)?, one(command)?, data).into()
+        ("cell" | "doorcell", [p, capture, zone, command, ..]) => {
+            sheets::cell(one(p), capture, one(zone), one(command)).into()
         }
-        ("decimal", [length, place, number]) => {
-            let decimal = signed(number)? as u16;
-            written(size(length)?, text::number(place)?, || {
-                Ok(decimal.to_string().into_bytes())
-            })
+        ("listing", [input, ..]) => captures::list(input, None, tally).into(),
+        ("pieces", [length, input, ..]) => captures::list(input, Some(size(length)), tally).into(),
+        ("all", [p, d, ..]) => messages::all(one(p), one(d)).into(),
+        ("pairs", [d, ..]) => messages::pairs(one(d)).into(),
+        ("codes", [p, zone, command, data, ..]) => {
+            messages::codes(one(p), one(zone), one(command), data).into()
         }
-        ("hex", [length, place, code]) => {
-            let code = one(code)?;
-            written(size(length)?, text::number(place)?, || {
-                Ok(text::hex(&[code]).into_bytes())
-            })
+        ("decimal", [length, place, number, ..]) => {
+            let decimal = (signed(number) as u16).to_string().into_bytes();
+            written(size(length), text::number(place), || Ok(decimal))
+        }
+        ("hex", [length, place, code, ..]) => {
+            let digits = text::hex(&[one(code)]).into_bytes();
+            written(size(length), text::number(place), || Ok(digits))
+        }
+        ("doorlist", [p, lines, ..]) => sheets::check_list(one(p), lines, tally).into(),
+        ("doorfile", [p, length, place, lines, ..]) => {
+            let (place, list) = (text::number(place), Sheet::List(lines));
+            sheets::sheet_bytes(one(p), size(length), place, list, sheet::file, tally)
+        }
+        ("doorrun", [p, length, place, lines, ..]) => {
+            let (place, list) = (text::number(place), Sheet::List(lines));
+            sheets::sheet_bytes(one(p), size(length), place, list, sheet::run, tally)
+        }
+        ("doorsign" | "dooroff", [p, lines, capture, ..]) => {
+            sheets::sign(one(p), Sheet::List(lines), capture, tally).into()
+        }
+        ("doorfeed", [p, zone, command, ac, data, ..]) => {
+            let answer = frame_of(one(zone), one(command), one(ac), data);
+            sheets::feed(one(p), answer).into()
         }
         _ => return None,
     };
     tally.count(Kind::Word(word));
+    tally.outcome(word, reply.answer.as_deref().unwrap_or("refused"));
     Some(reply)
 }
 
-/// An argument of one byte.
-fn one(argument: &[u8]) -> Option<u8> {
-    match *argument {
-        [byte] => Some(byte),
-        _ => None,
-    }
+/// A single byte: the last.
+fn one(argument: &[u8]) -> u8 {
+    text::number(argument) as u8
 }
 
 /// A buffer's length.
-fn size(argument: &[u8]) -> Option<usize> {
-    let length = text::number(argument)?;
-    if length > BUFFER_LIMIT {
-        return None;
-    }
-    usize::try_from(length).ok()
+fn size(argument: &[u8]) -> usize {
+    text::number(argument).min(BUFFER_LIMIT) as usize
 }
 
-/// A number of two bytes, two's complement.
-fn signed(argument: &[u8]) -> Option<i16> {
-    match *argument {
-        [high, low] => Some(i16::from_be_bytes([high, low])),
-        _ => None,
-    }
+/// The last two bytes, two's complement.
+fn signed(argument: &[u8]) -> i16 {
+    text::number(argument) as i16
 }
 
 fn profile_of(letter: u8) -> Result<Profile, u8> {
@@ -637,24 +638,307 @@ mod tests {
     }
 
     #[test]
-    fn lines_that_are_no_operation() {
+    fn an_unknown_word_alone_is_wrong() {
         for line in [
             "",
-            "feed",
-            "feed 43",
-            "feed 43  21",
-            "feed 43 2",
-            "feed 43 21 ",
+            " ",
             "Feed 43 21",
-            "feed 4343 21",
-            "code 01",
-            "part 000000000000000000 01 21",
-            "hex 1001 00 3A",
-            "write 41 08 01 45 01 3A 00 07 FFFB 00 -",
-            "write 41 08 01 43 01 3A 00 09 FFFB 00 -",
-            "parts 43",
+            " feed 43 21",
+            "feeds 43 21",
+            "feed\t43 21",
+            "-",
         ] {
             assert_eq!(print(line), "?", "{line}");
+        }
+        // A missing argument is no bytes, and a letter of none 00.
+        assert_eq!(print("feed 43"), "");
+        for word in ["feed", "all", "pairs", "doorcell", "doorfeed"] {
+            assert_eq!(print(word), "refused 12", "{word}");
+        }
+        assert_eq!(print("doorsign"), "refused 12 at 0");
+        assert_eq!(print("write"), "refused 12 : -");
+        assert_eq!(print("listing"), "refused 12");
+        assert_eq!(print("pieces"), "refused 9");
+        assert_eq!(print("check 41"), "accepted 0 : -");
+        assert_eq!(print("sign 41"), "signed");
+        assert_eq!(print("cell 41"), "no cell");
+        assert_eq!(print("number"), "0");
+        assert_eq!(print("code"), "00");
+        assert_eq!(print("decimal 02"), "bytes 1 : 30AA");
+        assert_eq!(print("hex 02"), "bytes 2 : 3030");
+        assert_eq!(print("event 43"), "end");
+        assert_eq!(print("fields 43"), "not one frame");
+        assert_eq!(print("read 41 52 01 3A"), "refused 3");
+        assert_eq!(print("part"), "-");
+        // One too many is passed over.
+        assert_eq!(print("number 85 41 xyz"), "-5");
+        assert_eq!(print("feed 43 21 "), "w");
+        let surplus = "write 41 06 - 43 01 3A 00 07 FFFB 00 - 41 42 43 44";
+        assert_eq!(print(surplus), "bytes 6 : 21013A01850D");
+    }
+
+    #[test]
+    fn parts_are_as_many_as_there_are_up_to_twelve() {
+        assert_eq!(print("parts 43"), "");
+        assert_eq!(print("parts"), "refused 12");
+        assert_eq!(print("parts 43 "), "0/0/0");
+        assert_eq!(print("parts 43  00 "), "0/0/0 0/0/1 0/0/0");
+        let twelve = ["0/0/1"; 12].join(" ");
+        for count in [12, 13, 40] {
+            let line = format!("parts 43{}", " 00".repeat(count));
+            assert_eq!(print(&line), twelve);
+        }
+    }
+
+    #[test]
+    fn of_an_argument_the_hex_digits_count() {
+        for digits in [
+            "21010d010D0d",
+            "2-1010D010D0D",
+            "21/01:0D@01G0D`0Dg",
+            "x21010D010D0D7",
+        ] {
+            assert_eq!(
+                print(&format!("feed 43 {digits}")),
+                "w w w w w f6",
+                "{digits}"
+            );
+        }
+        for none in ["", "-", "--", "7", "g7-", "\u{e9}"] {
+            assert_eq!(print(&format!("feed 43 {none}")), "", "{none}");
+        }
+        // Two spaces are an argument of no bytes.
+        assert_eq!(print("feed 43  21"), "");
+        assert_eq!(print("feed  43 21"), "refused 12");
+        assert_eq!(print("last  01 0203"), "-");
+    }
+
+    #[test]
+    fn of_a_number_the_last_bytes_count() {
+        assert_eq!(print("part FF0000000000000001 02 010203"), "0203");
+        assert_eq!(print("part 01FFFFFFFFFFFFFFFF 02 010203"), "-");
+        assert_eq!(print("last 010000000000000002 010203"), "0203");
+        assert_eq!(print("code 1234FFFB"), "85");
+        assert_eq!(print("code 05"), "05");
+        assert_eq!(print("code FB"), "none");
+        assert_eq!(print("plain FB"), "FB");
+        assert_eq!(print("plain 000005"), "05");
+        assert_eq!(print("decimal 05 - 99FFFF"), "bytes 5 : 3635353335");
+        assert_eq!(print("decimal 05 - FF"), "bytes 3 : 323535AAAA");
+        assert_eq!(print("number 0185"), "-5");
+        assert_eq!(print("totals 4152 -"), "frame 0 broken 0 noise 0 pending 0");
+        assert_eq!(
+            print("read 5341 0043 FF01 003A 00 85"),
+            "command 1 3A number -5"
+        );
+        assert_eq!(print("legal FF41 FF01 FF3A FF85"), "legal");
+        let long = format!("bytes 2 : {}3341", "AA".repeat(4_094));
+        for length in ["1000", "1001", "010000", "FFFFFFFFFFFFFFFF", "001001"] {
+            assert_eq!(print(&format!("hex {length} 0FFE 3A")), long);
+            assert!(print(&format!("hex {length} 0FFF 3A")).starts_with("refused 9 : AA"));
+        }
+        // Of its last 8 bytes none is left.
+        assert_eq!(print("hex 010000000000000000 - 3A"), "refused 9 : -");
+    }
+
+    #[test]
+    fn another_kind_is_a_status_and_a_greater_form_an_input() {
+        for kind in ["53", "00", "41", "63", "4453"] {
+            let status = format!("write 41 07 - {kind} 01 3A 82 07 FFFB 00 -");
+            assert_eq!(print(&status), "bytes 7 : 21013A0001850D", "{kind}");
+        }
+        for form in ["08", "09", "7F", "FF"] {
+            let input = format!("write 53 07 - 43 01 0F 00 {form} 0006 01 -");
+            assert_eq!(print(&input), "bytes 7 : 21010F0206010D", "{form}");
+        }
+        // In a denied message it is not looked at.
+        let denied = "write 41 06 - 44 07 99 83 09 0006 01 -";
+        assert_eq!(print(denied), "bytes 6 : 21079983000D");
+    }
+
+    #[test]
+    fn a_longer_line_is_cut() {
+        let of_length = |length: usize| {
+            let start = "last 02 ";
+            let digits = "0123456789ABCDEF".repeat(LINE_LIMIT / 16 + 1);
+            format!("{start}{}", &digits[..length - start.len()])
+        };
+        assert_eq!(print(&of_length(LINE_LIMIT - 1)), "2345");
+        for length in [LINE_LIMIT, LINE_LIMIT + 1, LINE_LIMIT + 9] {
+            assert_eq!(print(&of_length(length)), "4567", "{length}");
+        }
+        let spaces = " ".repeat(LINE_LIMIT);
+        assert_eq!(print(&format!("number{spaces}")), "0");
+        assert_eq!(print(&format!("{spaces}number")), "?");
+        let mut printed = Vec::new();
+        let input = format!("#{spaces}\nnumber 85\n\n#\nnumber 01");
+        run_all(input.as_bytes(), &mut printed).unwrap();
+        assert_eq!(printed, b"-5\n?\n1\n");
+    }
+
+    #[test]
+    fn lists_of_lines() {
+        assert_eq!(print("doorlist 41 013A850239FF"), "accepted");
+        assert_eq!(print("doorlist 41 -"), "accepted");
+        // What is left over of a line is passed over.
+        assert_eq!(print("doorlist 41 013A8501"), "accepted");
+        assert_eq!(print("doorlist 41 013A"), "accepted");
+        assert_eq!(print("doorlist 41 013A80"), "refused 7 at 0");
+        assert_eq!(print("doorlist 41 013A85013A84"), "refused 8 at 1");
+        assert_eq!(print("doorlist 58 013A80"), "refused 12 at 0");
+        assert_eq!(
+            print("doorfile 41 0E 01 013A850239FF"),
+            "bytes 12 : AA534C41013A85534C410239FFAA"
+        );
+        let run = format!("{}21013801010D", "00".repeat(255));
+        assert_eq!(
+            print("doorrun 41 0106 01 01380102"),
+            format!("bytes 261 : AA{run}")
+        );
+        for word in ["doorfile", "doorrun"] {
+            assert_eq!(print(&format!("{word} 41 02 02 -")), "bytes 0 : AAAA");
+            assert_eq!(
+                print(&format!("{word} 41 02 03 -")),
+                "refused 9 at 0 : AAAA"
+            );
+            assert_eq!(
+                print(&format!("{word} 41 02 03 0138")),
+                "refused 9 at 0 : AAAA"
+            );
+            // 12, the list's refusals and then 9.
+            assert_eq!(print(&format!("{word} 42 01 02 -")), "refused 12 at 0 : AA");
+            let twice = "013801013802";
+            assert_eq!(
+                print(&format!("{word} 41 01 02 {twice}")),
+                "refused 8 at 1 : AA"
+            );
+            assert_eq!(
+                print(&format!("{word} 41 01 - 013801")),
+                "refused 9 at 0 : AA"
+            );
+        }
+    }
+
+    #[test]
+    fn a_list_is_what_its_file_is() {
+        for (p, full) in [("41", 15), ("53", 8)] {
+            for count in [0, 1, full, full + 1, 24, 25, 271] {
+                let file = file(p, count);
+                // Without the marks and the profile.
+                let list: String = (0..count)
+                    .map(|at| &file[12 * at + 6..12 * at + 12])
+                    .collect();
+                let list = match count {
+                    0 => "-".to_string(),
+                    _ => list,
+                };
+                let answer = "21013A0001000D";
+                for (words, rest) in [
+                    (["copy", "doorfile", "doorfile"], "0100 02 SHEET"),
+                    (["run", "doorrun", "doorrun"], "0200 02 SHEET"),
+                    (["sign", "doorsign", "dooroff"], &format!("SHEET {answer}")),
+                ] {
+                    let of_file = print(&format!(
+                        "{} {p} {}",
+                        words[0],
+                        rest.replace("SHEET", &file)
+                    ));
+                    for word in &words[1..] {
+                        let of_list =
+                            print(&format!("{word} {p} {}", rest.replace("SHEET", &list)));
+                        assert_eq!(of_list, of_file, "{word} {count}");
+                    }
+                }
+                let of_file = print(&format!("check {p} {file}"));
+                let of_list = print(&format!("doorlist {p} {list}"));
+                assert!(of_file.starts_with(&of_list), "{count}");
+            }
+        }
+    }
+
+    #[test]
+    fn lists_are_signed_off() {
+        let over = "00".repeat(60_001);
+        for word in ["doorsign", "dooroff"] {
+            let sign = |rest: &str| print(&format!("{word} {rest}"));
+            assert_eq!(sign("41 013A85 21013A0001850D"), "signed");
+            assert_eq!(sign("41 013A85 21013A0001840D"), "not signed");
+            assert_eq!(sign("41 013A85 -"), "not signed");
+            assert_eq!(sign("41 - -"), "signed");
+            assert_eq!(sign("41 013A00 21013A0001800D"), "signed");
+            // Denied and refused answers change nothing.
+            let denied = "41 013A85 21013A0001850D21013A84000D21013A0001900D";
+            assert_eq!(sign(denied), "signed");
+            assert_eq!(sign("41 013A85013A80 -"), "refused 7 at 1");
+            assert_eq!(sign("41 013A85013A84 -"), "refused 8 at 1");
+            // 12, 11, then the list's refusals.
+            assert_eq!(sign(&format!("41 013A80 {over}")), "refused 11 at 0");
+            assert_eq!(sign(&format!("42 013A80 {over}")), "refused 12 at 0");
+            assert_eq!(sign(&format!("41 - {}", &over[2..])), "signed");
+        }
+    }
+
+    #[test]
+    fn cells_through_the_doors() {
+        for cell in [
+            "41 21013A0001850D 01 3A",
+            "41 21013A0001850D 02 3A",
+            "53 21010F000206010D 01 0F",
+            "41 - 04 3A",
+            "42 - 01 3A",
+        ] {
+            let of_door = print(&format!("doorcell {cell}"));
+            assert_eq!(of_door, print(&format!("cell {cell}")));
+        }
+        let over = format!("doorcell 41 {} 01 3A", "00".repeat(60_001));
+        assert_eq!(print(&over), "refused 11");
+        assert_eq!(print(&over.replace(" 41 ", " 61 ")), "refused 12");
+        for (answer, printed) in [
+            ("41 01 3A 00 85", "status 1 3A number -5 ; value 85"),
+            ("41 01 3A 00 80", "status 1 3A number 0 ; value 00"),
+            ("53 02 3B 00 80", "status 2 3B number 0 ; value 00"),
+            ("41 02 39 00 FF", "status 2 39 off ; value FF"),
+            ("41 01 37 00 02", "status 1 37 number 2 ; value 02"),
+            ("41 07 99 83 -", "denied 7 99 83 : - ; no cell"),
+            ("41 01 3A 84 85", "denied 1 3A 84 : 85 ; unknown"),
+            ("53 01 0F 00 0601", "status 1 0F input 6 on ; no cell"),
+            ("41 01 38 81 02", "refused 5 ; unknown"),
+            ("41 01 3A 00 90", "refused 4 ; unknown"),
+            ("41 01 3A 00 8585", "refused 3 ; unknown"),
+            ("41 01 3B 00 00", "refused 2 ; no cell"),
+            ("41 04 3A 00 00", "refused 1 ; no cell"),
+            ("41 02 10 00 00", "refused 1 ; no cell"),
+            ("42 01 3A 00 85", "refused 12"),
+        ] {
+            assert_eq!(print(&format!("doorfeed {answer}")), printed);
+        }
+    }
+
+    #[test]
+    fn outcomes_are_counted() {
+        let all = Kind::all(&WORDS);
+        for (line, outcome) in [
+            ("sign 41 - -", "signed"),
+            ("doorlist 41 -", "accepted"),
+            ("doorlist 42 -", "refused"),
+            ("doorfile 41 - - -", "accepted"),
+            ("doorrun 41 - 01 -", "refused"),
+            ("doorsign 41 013A85 -", "not signed"),
+            ("dooroff 41 - -", "signed"),
+            ("doorcell 41 - 01 3A", "unknown"),
+            ("doorfeed 41 01 3A 00 85", "status"),
+            ("doorfeed 41 01 3A 00 90", "refused"),
+        ] {
+            let mut tally = Tally::default();
+            run(line.as_bytes(), &mut String::new(), &mut tally);
+            let is_counted =
+                |kind: &&Kind| matches!(kind, Kind::Outcome(..)) && tally.of(**kind) > 0;
+            let counted: Vec<String> = all.iter().filter(is_counted).map(Kind::to_string).collect();
+            let expected = match line.split(' ').next() {
+                Some("sign") => format!("sign-off {outcome}"),
+                word => format!("operation {}, {outcome}", word.unwrap()),
+            };
+            assert_eq!(counted, [expected]);
         }
     }
 }

@@ -394,9 +394,13 @@ fn stop(unit: &mut Unit, bytes: &[u8]) {
 
 /// The run that an answer to `run` holds.
 fn printed_run(printed: &str) -> Option<Vec<u8>> {
-    let (count, buffer) = printed.strip_prefix("bytes ")?.split_once(" : ")?;
+    let (count, digits) = printed.strip_prefix("bytes ")?.split_once(" : ")?;
     let count: usize = count.parse().ok()?;
-    let buffer = text::bytes(buffer.as_bytes())?;
+    let buffer = text::bytes(digits.as_bytes());
+    // What is printed is digits alone.
+    if text::hex(&buffer) != digits {
+        return None;
+    }
     Some(buffer.get(..count)?.to_vec())
 }
 

@@ -7,6 +7,8 @@ use crate::rows::{self, Profile, ROWS};
 pub const LINE_LIMIT: usize = 24;
 /// The bytes of a line in a sheet file.
 pub const RECORD: usize = 6;
+/// The bytes of a line in a list.
+pub const LISTED: usize = 3;
 /// The zeros before the frames of a run: the 21 behind them falls on the longest old frame's end.
 pub const RUN_ZEROS: usize = 255;
 /// The bytes of a line in a run.
@@ -20,6 +22,16 @@ pub struct Line {
     pub zone: u8,
     pub command: u8,
     pub value: u8,
+}
+
+impl Line {
+    pub fn of(zone: u8, command: u8, value: u8) -> Line {
+        Line {
+            zone,
+            command,
+            value,
+        }
+    }
 }
 
 /// A refusal of a sheet, with the index of the line at fault.
@@ -57,6 +69,20 @@ pub fn check(profile: Profile, lines: &[Line]) -> Result<(), Fault> {
     Ok(())
 }
 
+/// The lines of a list, three bytes each; one or two left over are passed over.
+pub fn lines_of(list: &[u8]) -> Vec<Line> {
+    let lines = list.chunks_exact(LISTED);
+    lines
+        .map(|line| Line::of(line[0], line[1], line[2]))
+        .collect()
+}
+
+/// The bytes of a list of any lines.
+pub fn list(lines: &[Line]) -> Vec<u8> {
+    let bytes = |line: &Line| [line.zone, line.command, line.value];
+    lines.iter().flat_map(bytes).collect()
+}
+
 /// The lines of an accepted sheet file.
 pub fn read_file(profile: Profile, file: &[u8]) -> Result<Vec<Line>, Fault> {
     let records = file.chunks_exact(RECORD);
@@ -73,11 +99,7 @@ pub fn read_file(profile: Profile, file: &[u8]) -> Result<Vec<Line>, Fault> {
         }
     }
     let lines: Vec<Line> = records
-        .map(|record| Line {
-            zone: record[3],
-            command: record[4],
-            value: record[5],
-        })
+        .map(|record| Line::of(record[3], record[4], record[5]))
         .collect();
     check(profile, &lines)?;
     Ok(lines)
@@ -131,11 +153,7 @@ mod tests {
     use super::*;
 
     fn line(zone: u8, command: u8, value: u8) -> Line {
-        Line {
-            zone,
-            command,
-            value,
-        }
+        Line::of(zone, command, value)
     }
 
     fn fault(number: u8, at: usize) -> Fault {
@@ -228,6 +246,16 @@ mod tests {
                     assert_eq!(check(profile, &lines), Err(again), "{count} {at}");
                 }
             }
+        }
+    }
+
+    #[test]
+    fn a_list_has_three_bytes_for_each_line() {
+        let lines = [line(1, 0x3A, 0x85), line(0, 0xFF, 0x80)];
+        let bytes = [0x01, 0x3A, 0x85, 0x00, 0xFF, 0x80, 0x01, 0x38];
+        assert_eq!(list(&lines), bytes[..6]);
+        for (count, listed) in [(0, 0), (2, 0), (3, 1), (5, 1), (6, 2), (7, 2), (8, 2)] {
+            assert_eq!(lines_of(&bytes[..count]), lines[..listed], "{count}");
         }
     }
 

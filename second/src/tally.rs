@@ -19,7 +19,8 @@ pub enum Kind {
     /// Minus zero in a row of the table, read in a direction.
     MinusZero(usize, Direction),
     Refusal(u8),
-    SignOff(&'static str),
+    /// What an operation's answer began with, by its word.
+    Outcome(&'static str, &'static str),
     /// A full sheet that was accepted.
     FullSheet(Profile),
     /// A sheet longer than any full one and within the limit, by its refusal.
@@ -37,7 +38,20 @@ pub enum Kind {
     Word(&'static str),
 }
 
-pub const SIGN_OFFS: [&str; 3] = ["signed", "not signed", "refused"];
+const WRITTEN: &[&str] = &["bytes", "refused"];
+const SIGN_OFFS: &[&str] = &["signed", "not signed", "refused"];
+
+/// The words whose outcomes are counted, with what their answers begin with.
+const OUTCOMES: [(&str, &[&str]); 8] = [
+    ("sign", SIGN_OFFS),
+    ("doorlist", &["accepted", "refused"]),
+    ("doorfile", WRITTEN),
+    ("doorrun", WRITTEN),
+    ("doorsign", SIGN_OFFS),
+    ("dooroff", SIGN_OFFS),
+    ("doorcell", &["value", "unknown", "no cell", "refused"]),
+    ("doorfeed", &["status", "denied", "refused"]),
+];
 
 /// The refusals of a sheet that is within the limit.
 const LONG_REFUSALS: [u8; 2] = [7, 8];
@@ -58,13 +72,21 @@ impl Kind {
         }
         kinds.extend(DIRECTIONS.into_iter().flat_map(Kind::minus_zeros));
         kinds.extend((1..=13).map(Kind::Refusal));
-        kinds.extend(SIGN_OFFS.map(Kind::SignOff));
+        kinds.extend(Kind::outcomes());
         kinds.extend(PROFILES.map(Kind::FullSheet));
         kinds.extend(LONG_REFUSALS.map(Kind::LongSheet));
         kinds.extend(SIZES.map(Kind::SheetOf));
         kinds.extend([Kind::EmptyRun, Kind::EmptyRunPastEnd]);
         kinds.extend(words.iter().copied().map(Kind::Word));
         kinds
+    }
+
+    /// Every outcome that is counted.
+    fn outcomes() -> impl Iterator<Item = Kind> {
+        OUTCOMES.into_iter().flat_map(|(word, outcomes)| {
+            let outcomes = outcomes.iter();
+            outcomes.map(move |outcome| Kind::Outcome(word, outcome))
+        })
     }
 
     /// Minus zero of every row that has it in that direction.
@@ -97,7 +119,9 @@ impl fmt::Display for Kind {
                 write!(out, "minus zero {}", row_text(row, direction))
             }
             Kind::Refusal(number) => write!(out, "refusal {number}"),
-            Kind::SignOff(result) => write!(out, "sign-off {result}"),
+            Kind::Outcome("sign", outcome) => write!(out, "sign-off {outcome}"),
+            Kind::Outcome(word, "bytes") => write!(out, "operation {word}, accepted"),
+            Kind::Outcome(word, outcome) => write!(out, "operation {word}, {outcome}"),
             Kind::FullSheet(profile) => {
                 write!(out, "full sheet {}, accepted", profile.letter() as char)
             }
@@ -134,6 +158,17 @@ impl Tally {
 
     pub fn of(&self, kind: Kind) -> u64 {
         self.counts.get(&kind).copied().unwrap_or(0)
+    }
+
+    /// Counts the outcome of an operation whose outcomes are counted.
+    pub fn outcome(&mut self, word: &str, answer: &str) {
+        let is_it = |kind: &Kind| {
+            matches!(*kind, Kind::Outcome(known, outcome)
+                if known == word && answer.starts_with(outcome))
+        };
+        if let Some(kind) = Kind::outcomes().find(is_it) {
+            self.count(kind);
+        }
     }
 
     /// Counts the row of a message that was read, and minus zero where the frame brought it.

@@ -2,27 +2,12 @@
 
 const DIGITS: &[u8; 16] = b"0123456789ABCDEF";
 
-/// The bytes that an argument writes: two hex digits each, `-` for none.
-pub fn bytes(argument: &[u8]) -> Option<Vec<u8>> {
-    if argument == b"-" {
-        return Some(Vec::new());
-    }
-    let pairs = argument.chunks_exact(2);
-    if argument.is_empty() || !pairs.remainder().is_empty() {
-        return None;
-    }
-    pairs
-        .map(|pair| Some(digit(pair[0])? << 4 | digit(pair[1])?))
-        .collect()
-}
-
-fn digit(character: u8) -> Option<u8> {
-    match character {
-        b'0'..=b'9' => Some(character - b'0'),
-        b'A'..=b'F' => Some(character - b'A' + 10),
-        b'a'..=b'f' => Some(character - b'a' + 10),
-        _ => None,
-    }
+/// The bytes of an argument, two hex digits each; all else and an odd digit are passed over.
+pub fn bytes(argument: &[u8]) -> Vec<u8> {
+    let digit = |&character: &u8| char::from(character).to_digit(16);
+    let digits: Vec<u32> = argument.iter().filter_map(digit).collect();
+    let pairs = digits.chunks_exact(2);
+    pairs.map(|pair| (pair[0] << 4 | pair[1]) as u8).collect()
 }
 
 /// Capital hex digits of the bytes, `-` for none.
@@ -38,14 +23,8 @@ pub fn hex(bytes: &[u8]) -> String {
     text
 }
 
-/// The number that at most 8 bytes are, the most significant first.
-pub fn number(bytes: &[u8]) -> Option<u64> {
-    if bytes.len() > 8 {
-        return None;
-    }
-    Some(
-        bytes
-            .iter()
-            .fold(0, |sum, &byte| sum << 8 | u64::from(byte)),
-    )
+/// The number that the last 8 bytes are, the most significant first; 0 for none.
+pub fn number(bytes: &[u8]) -> u64 {
+    let place = |sum, &byte| sum << 8 | u64::from(byte);
+    bytes.iter().fold(0, place)
 }

@@ -194,7 +194,7 @@ mod tests {
     /// The answer to a command's bytes, in hex.
     fn answer(unit: &mut Unit, hex: &str) -> String {
         let mut answers = Vec::new();
-        for byte in text::bytes(hex.as_bytes()).unwrap() {
+        for byte in text::bytes(hex.as_bytes()) {
             answers.extend(unit.take(byte).unwrap_or_default());
         }
         text::hex(&answers)

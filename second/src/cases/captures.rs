@@ -2,9 +2,10 @@
 
 use super::Cases;
 use crate::frame::{self, Direction, Stretch, CAPTURE_LIMIT};
+use crate::operations::LINE_LIMIT;
 use crate::rows::Profile;
 use crate::samples;
-use crate::sheet;
+use crate::sheet::{self, LISTED};
 
 /// Captures over this length go to fewer operations.
 const LONG: usize = 1_200;
@@ -179,13 +180,30 @@ impl Cases {
         self.add("listing", &[&input]);
         self.add("totals", &[b"c", &capture]);
         let size = self.random.below(4);
-        let file = sheet::records(profile, &samples::sheet(&mut self.random, profile, size));
+        let lines = samples::sheet(&mut self.random, profile, size);
+        let file = sheet::records(profile, &lines);
         let p = [profile.letter()];
         self.add("sign", &[&p, &file, &capture]);
-        // 11 comes before the file's refusals.
+        let list = sheet::list(&lines);
+        self.add("doorsign", &[&p, &list, &capture]);
+        self.add("dooroff", &[&p, &list, &capture]);
+        // 11 comes before the sheet's refusals, and 12 before it.
         self.add("sign", &[&p, &[0x53], &capture]);
+        let door = *self.random.pick(&["doorsign", "dooroff"]);
+        self.add(door, &[&p, &[0x00; LISTED], &capture]);
+        self.add(door, &[b"a", &list, &capture]);
         let row = *self.random.pick(&samples::rows_of(profile));
-        self.add("cell", &[&p, &capture, &[1], &[row.command]]);
+        self.cell(&p, &capture, 1, row.command);
         self.add("cell", &[&p, &capture, &[9], &[row.command]]);
+        self.long_line(LINE_LIMIT - 1 + index % 4);
+    }
+
+    /// A line of so many characters; where it is cut shows in the last bytes.
+    fn long_line(&mut self, length: usize) {
+        let bytes = self.random.bytes(length / 2 + 1);
+        self.add("last", &[&[8], &bytes]);
+        if let Some(line) = self.lines.last_mut() {
+            line.truncate(length);
+        }
     }
 }

@@ -156,6 +156,10 @@ impl Cases {
         let (zone, command) = ([fields.zone], [fields.command]);
         let (ac, data) = ([fields.answer_code], &fields.data[..]);
         self.add("read", &[&p, &d, &zone, &command, &ac, data]);
+        if fields.direction == Direction::Answer {
+            let p = self.letter(fields.profile.letter());
+            self.add("doorfeed", &[&p, &zone, &command, &ac, data]);
+        }
     }
 
     /// Reads and writes a message.
@@ -197,19 +201,20 @@ impl Cases {
             Ok(says) if self.random.percent(65) => said_as(says),
             _ => self.form(fields.row),
         };
-        let form = match self.random.percent(1) {
+        // A greater FORM is 08, and another KIND a status.
+        let form = match self.random.percent(3) {
             true => *self.random.pick(&[0x09, 0x7F, 0xFF]),
             false => form,
         };
-        let kind = match self.random.percent(1) {
+        let kind = match self.random.percent(3) {
             true => *self.random.pick(&[0x00, 0x41, 0x52, 0x63, 0xFF]),
             false => kind,
         };
         let need = match (kind, form) {
             (b'D', _) => 6 + fields.data.len(),
-            (b'C', 8) => 7,
+            (b'C', 8..) => 7,
             (b'C', _) => 6,
-            (_, 8) => 8,
+            (_, 8..) => 8,
             _ => 7,
         };
         let (length, place) = self.buffer(need);

@@ -4,7 +4,7 @@ use super::Cases;
 use crate::frame::Direction;
 use crate::rows::{Profile, Row, MINUS_ZERO, ROWS};
 use crate::samples::{self, PROFILES};
-use crate::sheet::{self, Line, LINE_LIMIT, RECORD};
+use crate::sheet::{self, Line, LINE_LIMIT, LISTED, RECORD};
 
 /// The least count that one byte cannot hold.
 const OVER_A_BYTE: usize = 256;
@@ -206,6 +206,41 @@ impl Cases {
         self.add("run", &[p, &length, &place, file]);
     }
 
+    /// A list of lines, now and then with bytes left over.
+    fn list(&mut self, lines: &[Line]) -> Vec<u8> {
+        let mut list = sheet::list(lines);
+        if self.random.percent(8) {
+            let count = self.random.between(1, LISTED - 1);
+            list.extend(self.random.bytes(count));
+        }
+        list
+    }
+
+    /// Checks a list of lines, and writes its file and its run.
+    fn sheet_list(&mut self, p: &[u8], lines: &[Line]) {
+        let list = self.list(lines);
+        self.add("doorlist", &[p, &list]);
+        let (length, place) = self.buffer(RECORD * lines.len());
+        self.add("doorfile", &[p, &length, &place, &list]);
+        let (length, place) = self.buffer(sheet::run_length(lines.len()));
+        self.add("doorrun", &[p, &length, &place, &list]);
+    }
+
+    /// Signs a sheet off, as a file and as a list of lines.
+    fn sign(&mut self, p: &[u8], file: &[u8], lines: &[Line], capture: &[u8]) {
+        self.add("sign", &[p, file, capture]);
+        let list = self.list(lines);
+        self.add("doorsign", &[p, &list, capture]);
+        self.add("dooroff", &[p, &list, capture]);
+    }
+
+    /// A cell, by itself and through the door.
+    pub(super) fn cell(&mut self, p: &[u8], capture: &[u8], zone: u8, command: u8) {
+        for word in ["cell", "doorcell"] {
+            self.add(word, &[p, capture, &[zone], &[command]]);
+        }
+    }
+
     /// Empty sheets of both profiles, to all that sheets go to.
     pub(super) fn empty_sheet_case(&mut self) {
         for profile in PROFILES {
@@ -213,17 +248,20 @@ impl Cases {
             let length = *self.random.pick(&[0, 1, 2, 7, 254, 255, 256]);
             let inside = self.random.between(0, length as usize) as u64;
             let past = length + self.random.between(2, 300) as u64;
+            let past = *self.random.pick(&[past, u64::MAX]);
             // Nothing is written, and only a place past the end is 9.
             for place in [inside, length, length + 1, past] {
                 let (length, place) = (self.number(length), self.number(place));
-                self.add("copy", &[&p, &length, &place, &[]]);
-                self.add("run", &[&p, &length, &place, &[]]);
+                for word in ["copy", "run", "doorfile", "doorrun"] {
+                    self.add(word, &[&p, &length, &place, &[]]);
+                }
             }
             let p = self.told(profile);
             self.sheet_file(&p, &[]);
+            self.sheet_list(&p, &[]);
             let length = self.random.between(0, 40);
             let capture = samples::capture(&mut self.random, profile, Direction::Answer, length);
-            self.add("sign", &[&p, &[], &capture]);
+            self.sign(&p, &[], &[], &capture);
         }
     }
 
@@ -258,12 +296,13 @@ impl Cases {
         }
         let p = self.told(profile);
         self.sheet_file(&p, &file);
+        self.sheet_list(&p, lines);
         // Answers to its legal lines, with one thing more or less.
         let mut answered = lines.to_vec();
         answered.retain(|&line| sheet::legal(profile, line));
         let mut capture = Vec::new();
         self.answers(profile, &answered, &mut capture);
-        self.add("sign", &[&p, &file, &capture]);
+        self.sign(&p, &file, lines, &capture);
     }
 
     pub(super) fn sheet_case(&mut self) {
@@ -272,6 +311,7 @@ impl Cases {
         let file = self.file(profile, &lines);
         let p = self.told(profile);
         self.sheet_file(&p, &file);
+        self.sheet_list(&p, &lines);
         for line in lines.iter().take(3) {
             let p = self.told(profile);
             self.add("legal", &[&p, &[line.zone], &[line.command], &[line.value]]);
@@ -284,25 +324,22 @@ impl Cases {
         let (profile, command) = (row.profile, row.command);
         let answer = samples::answer(zone, command, MINUS_ZERO);
         for &value in ends {
-            let line = Line {
-                zone,
-                command,
-                value,
-            };
+            let line = Line::of(zone, command, value);
             let file = sheet::records(profile, &[line]);
             let p = self.letter(profile.letter());
             self.add("legal", &[&p, &[zone], &[command], &[value]]);
             self.add("check", &[&p, &file]);
-            self.add("sign", &[&p, &file, &answer]);
+            self.add("doorlist", &[&p, &sheet::list(&[line])]);
+            self.sign(&p, &file, &[line], &answer);
         }
         let p = self.letter(profile.letter());
-        self.add("cell", &[&p, &answer, &[zone], &[command]]);
+        self.cell(&p, &answer, zone, command);
     }
 
     pub(super) fn history_case(&mut self) {
         let profile = self.profile();
         let size = self.random.between(0, samples::most_lines(profile));
-        let lines = samples::sheet(&mut self.random, profile, size);
+        let mut lines = samples::sheet(&mut self.random, profile, size);
         let mut capture = Vec::new();
         // What the unit said before, often minus zero.
         for _ in 0..self.random.below(6) {
@@ -326,15 +363,15 @@ impl Cases {
         }
         let mut file = sheet::records(profile, &lines);
         if self.random.percent(12) {
-            let lines = self.lines(profile);
+            lines = self.lines(profile);
             file = self.file(profile, &lines);
         }
         let p = self.told(profile);
-        self.add("sign", &[&p, &file, &capture]);
+        self.sign(&p, &file, &lines, &capture);
         for zone in 1..=profile.zones() {
             for row in samples::rows_of(profile) {
                 let p = self.letter(profile.letter());
-                self.add("cell", &[&p, &capture, &[zone], &[row.command]]);
+                self.cell(&p, &capture, zone, row.command);
             }
         }
         for _ in 0..4 {
@@ -342,10 +379,7 @@ impl Cases {
             let (other_zone, other) = (self.random.byte(), self.random.byte());
             let zone = *self.random.pick(&[0, 1, 2, 3, 4, 255, other_zone]);
             let command = *self.random.pick(&[command, command, 0x99, other]);
-            self.add(
-                "cell",
-                &[&[profile.letter()], &capture, &[zone], &[command]],
-            );
+            self.cell(&[profile.letter()], &capture, zone, command);
         }
     }
 

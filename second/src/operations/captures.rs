@@ -28,12 +28,12 @@ pub(super) fn feed(d: u8, bytes: &[u8]) -> Answer {
     Ok(text)
 }
 
-pub(super) fn parts_of(d: u8, parts: &[&[u8]]) -> Answer {
+pub(super) fn parts_of(d: u8, parts: &[Vec<u8>]) -> Answer {
     let mut reader = Reader::new(direction_of(d)?);
     let mut made_of_parts = Vec::new();
     for part in parts {
         let (mut framed, mut broken, mut noise) = (0, 0, 0);
-        for &byte in *part {
+        for &byte in part {
             match reader.take(byte) {
                 Step::Waiting => {}
                 Step::Noise => noise += 1,

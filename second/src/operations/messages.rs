@@ -2,7 +2,7 @@
 
 use std::fmt::Write as _;
 
-use super::{direction_of, frame_of, one, profile_of, signed, written, Answer, Reply};
+use super::{direction_of, frame_of, one, profile_of, signed, written, Answer, Reply, ARGUMENTS};
 use crate::frame::{Direction, Frame};
 use crate::message::{self, Message};
 use crate::rows::{self, Profile, Says};
@@ -25,6 +25,14 @@ fn read_message(profile: Profile, direction: Direction, frame: Frame, tally: &mu
     let message = message::read(profile, direction, frame)?;
     tally.message(profile, &frame, &message);
     Ok(print_message(message))
+}
+
+/// A message or its refusal.
+pub(super) fn print_reading(reading: Result<Message, u8>) -> String {
+    match reading {
+        Ok(message) => print_message(message),
+        Err(number) => format!("refused {number}"),
+    }
 }
 
 fn print_message(message: Message) -> String {
@@ -65,47 +73,41 @@ fn print_says(says: Says) -> String {
     }
 }
 
-/// The message of `write` from KIND on; none for another KIND or FORM.
-pub(super) fn said<'a>(arguments: &[&'a [u8]]) -> Option<Message<'a>> {
-    let [kind, zone, command, ac, form, number, state, data] = arguments else {
-        return None;
-    };
-    let (zone, command, answer_code) = (one(zone)?, one(command)?, one(ac)?);
-    let (form, number, state) = (one(form)?, signed(number)?, one(state)?);
-    let says = match form {
-        0x00 => Some(Says::Request),
-        0x01 => Some(Says::Up),
-        0x02 => Some(Says::Down),
-        0x03 => Some(Says::On),
-        0x04 => Some(Says::Off),
-        0x05 => Some(Says::Toggle),
-        0x06 => Some(Says::LevellerOff),
-        0x07 => Some(Says::Number(number)),
-        0x08 => Some(Says::Input {
+/// The message of `write` from KIND on.
+pub(super) fn said(arguments: [&[u8]; ARGUMENTS - 3]) -> Message<'_> {
+    let [kind, zone, command, ac, form, number, state, data, ..] = arguments;
+    let (zone, command, number) = (one(zone), one(command), signed(number));
+    let says = match one(form) {
+        0x00 => Says::Request,
+        0x01 => Says::Up,
+        0x02 => Says::Down,
+        0x03 => Says::On,
+        0x04 => Says::Off,
+        0x05 => Says::Toggle,
+        0x06 => Says::LevellerOff,
+        0x07 => Says::Number(number),
+        _ => Says::Input {
             input: number.to_be_bytes()[1],
-            on: state != 0x00,
-        }),
-        _ => None,
+            on: one(state) != 0x00,
+        },
     };
-    match one(kind)? {
-        b'C' => Some(Message::Command {
+    match one(kind) {
+        b'C' => Message::Command {
             zone,
             command,
-            says: says?,
-        }),
-        b'S' => Some(Message::Status {
+            says,
+        },
+        b'D' => Message::Denied {
             zone,
             command,
-            says: says?,
-        }),
-        // In a denied message FORM is not looked at.
-        b'D' => Some(Message::Denied {
-            zone,
-            command,
-            answer_code,
+            answer_code: one(ac),
             data,
-        }),
-        _ => None,
+        },
+        _ => Message::Status {
+            zone,
+            command,
+            says,
+        },
     }
 }
 
@@ -226,10 +228,8 @@ pub(super) fn codes(p: u8, zone: u8, command: u8, data: &[u8]) -> Answer {
     let lines: Vec<String> = (0..=255u8)
         .map(|answer_code| {
             let frame = frame_of(zone, command, answer_code, data);
-            match message::read(profile, Direction::Answer, frame) {
-                Ok(message) => format!("{answer_code:02X} {}", print_message(message)),
-                Err(number) => format!("{answer_code:02X} refused {number}"),
-            }
+            let reading = message::read(profile, Direction::Answer, frame);
+            format!("{answer_code:02X} {}", print_reading(reading))
         })
         .collect();
     Ok(lines.join("\n"))
