@@ -189,7 +189,8 @@ module _ {M : Type 1} (𝓤 : URA M) (H : Heap 𝓤) (A : Atoms 𝓤) (at-mem : 
           qed W ((‵ (flft κ-lines q-lines) ⊛ ‵ ftrue) ∷ ‵ (owns (ShrSlice (named 0) κ-lines D-Line.the-row ∷ D-Sheet.the-row ∷ []) x at) ∷ []) ∵ enter ! (𝓣 .C) (𝓣 .Λ) code.function (sliceVal (b-lines, o-lines) (length lines) ∷ LL.val D-Sheet.the-type D-Sheet′.the-laws from₀ ∷ []) _ $
           alloc1 ! (λ l0. alloc1 ! (λ l1. alloc1 ! (λ l2. alloc1 ! (λ l3. alloc1 ! (λ l4. alloc1 ! (λ l5. alloc1 ! (λ l6. alloc1 ! (λ l7. alloc1 ! (λ l8. alloc0 ! $ params1 ! $
           pass1 ! (init ! 14 refl (tt, (tt, (record { fits = is-lines .0 }, tt)))) $ pass1 ! (init ! 12 refl (LL.lawful D-Sheet.the-type D-Sheet′.the-laws 𝓤 H A W .typed from₀ _ is-from₀ .0)) $ pass0 ! $
-          assigns ! (of-opd ! (load ! (from ! (stop !)) (look ! 12 refl))) (from ! (stop !)) (init ! 10 refl (LL.lawful D-Sheet.the-type D-Sheet′.the-laws 𝓤 H A W .typed from₀ _ is-from₀ .0)) $ assigns ! (of-opd ! (lit ! tt)) (from ! (stop !)) (init ! 8 refl (tt, record { fits = lit< tt })) $
+          assigns ! (of-opd ! (load ! (from ! (stop !)) (look ! 12 refl))) (from ! (stop !)) (init ! 10 refl (LL.lawful D-Sheet.the-type D-Sheet′.the-laws 𝓤 H A W .typed from₀ _ is-from₀ .0)) $
+          assigns ! (of-opd ! (lit ! tt)) (from ! (stop !)) (init ! 8 refl (tt, record { fits = lit< tt })) $
           move ! (19 ∷ []) $ fsplit ! $ move ! (20 ∷ []) $ split ! $
           move ! (2 ∷ []) $ fsplit ! $ drop ! $ fsplit ! $ drop ! $ keep ! (0 ∷ 1 ∷ 4 ∷ 5 ∷ 6 ∷ 7 ∷ 8 ∷ 9 ∷ 10 ∷ 11 ∷ 12 ∷ 13 ∷ 14 ∷ 15 ∷ 16 ∷ 17 ∷ 18 ∷ 19 ∷ 20 ∷ 21 ∷ []) $ looped l0 l1 l2 l3 l4 l5 l6 l7 l8)))))))))
 

@@ -26,7 +26,7 @@ use denote.Builtin.{u8}
 use denote.Ref.{RefT, MutRef, ptr-vals, mut-tells}
 use denote.Slice.{sliceVal, ShrSlice, Room, slice-vals, shr-slice-tells}
 use denote.Signature.{plain}
-use denote.Steps.{opens, closes, owned, peeks, heard, nothing}
+use denote.Steps.{opens, closes, owned, peeks, heard, nothing, only}
 use denote.Struct.Steps.{spelt}
 use denote.Struct.Laws as LL
 use denote.Enum.Laws as EL
@@ -59,10 +59,6 @@ use Rattle.host.proofs.trackers.feed_capture.Code as code
 
 abbrev stayed : Stays (f.ended .signature .params) (f.ended .kept)
 stayed = (stay-ref (0 ∷ []) tt (plain (λ _. D-Tracker.the-row)), (stay-dropped _ yes, tt))
-
-abbrev only : List Val → Val
-only [] = vptr 0 0
-only (v ∷ vs) = v
 
 module _ {M : Type 1} (𝓤 : URA M) (H : Heap 𝓤) (A : Atoms 𝓤) (at-mem : Memory → SProp 𝓤) (run : Routine → Fun 𝓤) where
   abbrev Called-g1 : Contract 𝓤
