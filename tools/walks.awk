@@ -2,6 +2,9 @@
 #   awk -v door=[CRATE::]MODULE::FUNCTION -f tools/walks.awk crates/*/doors.txt
 # It is run in the repository's root, and reads what it needs: the door's line in one of the files, the door, what it calls
 # and the types of both in crates/*/src, and the texts of tools/walks.forms. A list is a text with | between.
+# A door has one of two shapes: a straight line of calls, each in a `let` of its own, whose arguments are parameters, earlier
+# results, `*x` of a lent struct, or `&x`, `&mut x` and `&x[..n]` of what a local keeps, with at most one field stored into a
+# `&mut` struct; or one loop over a slice. Any other is told by a message.
 
 function fail(text) { print "tools/walks: " door ": " text > "/dev/stderr"; exit 2 }
 function before(text, mark) { return substr(text, 1, index(text, mark) - 1) }
