@@ -1,10 +1,14 @@
-# Writes the proof of one door: a walk of its MIR from its parameters to its contract.
+# Writes the proof of one door, or of a function that lends to one: a walk of its MIR from its parameters to its contract.
 #   awk -v door=[CRATE::]MODULE::FUNCTION -f tools/walks.awk crates/*/doors.txt
-# It is run in the repository's root, and reads what it needs: the door's line in one of the files, the door, what it calls
-# and the types of both in crates/*/src, and the texts of tools/walks.forms. A list is a text with | between.
-# A door has one of two shapes: a straight line of calls, each in a `let` of its own, whose arguments are parameters, earlier
-# results, `*x` of a lent struct, or `&x`, `&mut x` and `&x[..n]` of what a local keeps, with at most one field stored into a
-# `&mut` struct; or one loop over a slice. Any other is told by a message.
+# It is run in the repository's root, and reads what it needs: the door's line in one of the files (the head of
+# crates/host/doors.txt says what it has), the laws' file, the door, what it calls and the types of both in crates/*/src,
+# and the texts of tools/walks.forms. A list is a text with | between.
+# A door has one of two shapes. A straight line: `let x = f(..);`, `let mut x = y;`, `*x = y.field;` (one for each `&mut`
+# struct), and last the result: a call, `y.field`, or `S { field: x, .. }`. Arguments are parameters, earlier results, `*x`
+# of a lent struct and, in one call alone, `&x`, `&mut x` or `&x[..n]` of a value or a local; for the last the door has
+# `requires { ⌜ n ≤ limit ⌝ }`. Or one loop over a slice, word for word as before `read_loop`. What is called asks nothing;
+# each `ensures` is one equation { λ r. ⌜ .. ≡ .. ⌝ }, at most two to a function; each type and function has a `use` line of
+# its own, and each definition of a contract stands in a `ghost use MODULE.{..};`. Another shape is told by a message.
 
 function fail(text) { print "tools/walks: " door ": " text > "/dev/stderr"; exit 2 }
 function before(text, mark) { return substr(text, 1, index(text, mark) - 1) }
@@ -829,7 +833,8 @@ function write_proof(    i, uses_of_callees) {
 
 BEGIN {
     for (i = split("u8 w8 u16 w16 u32 w32 u64 w64 usize w64", list, " "); i > 0; i -= 2) width[list[i - 1]] = list[i]
-    own = "x at r t i s v y p a f e us vs bound walk goes meets stayed made fits none slice elem code stated run now name ptr start turns more"
+    # names that the texts of tools/walks.forms bind: a new one there is added here
+    own = "less over below scaled x at r t i s v y p a f e us vs bound walk goes meets stayed made fits none slice elem code stated run now name ptr start turns more"
     own = own " ends looped tt rw omega search simp absurd record module abbrev unfolding data where"
     for (i = split(own, list, " "); i > 0; i--) walk_has[list[i]] = "the walk"
     if (door !~ /^([a-z_]+::)?[a-z_]+::[a-z0-9_]+$/) fail("this is no MODULE::FUNCTION")

@@ -1,4 +1,4 @@
--- What the private functions compute. Nothing here need be believed: proofs/ ties each form to the definitions.
+-- What the private functions compute, here and in `decimal`. Nothing here need be believed: proofs/ ties each form to the definitions.
 use Prim.Native.Nat.{ℕ, zero, suc, _/_, _%_}
 use mathlib.Core.List.{List, [], _∷_, _++_}
 use Rattle.characters.specs.Decimal.{digit}

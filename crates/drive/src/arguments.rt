@@ -19,7 +19,7 @@ pub(crate) struct Taken {
     digit: u8,
 }
 
-// A character of a line; a space behind its end.
+// A character of the space that a line is in; a space behind its end.
 pub(crate) fn letter(line: &[u8], place: usize) -> u8 {
     if place >= line.len() {
         return b' ';
@@ -27,13 +27,20 @@ pub(crate) fn letter(line: &[u8], place: usize) -> u8 {
     line[place]
 }
 
-// The word that a line begins with, its letters as a number: of a longer one the last 8.
+// The word that a line begins with, its letters as a number; 0, which is no operation, where it has more than 8 or one of
+// them is 0.
 pub(crate) fn word(line: &[u8], count: usize) -> u64 {
     let mut word = 0;
     for i in 0..count {
         let letter = letter(line, i);
         if letter == b' ' {
             return word;
+        }
+        if letter == 0 {
+            return 0;
+        }
+        if i == 8 {
+            return 0;
         }
         word = longer(word, letter);
     }

@@ -126,7 +126,7 @@ fn say_answer(answer: ByteAnswer) {
     }
 }
 
-// One part of a stream: what it settled, and the reader after it.
+// Says what one part of a stream settled.
 fn part(reader: Reader, bytes: &[u8]) {
     let part = frame::part::take_part(reader, bytes);
     say_number(part.frame as u64);

@@ -61,10 +61,12 @@ fn take_byte(byte: u8, line: &mut [u8], count: usize) -> usize {
 
 // One operation; a line that begins with # is none.
 fn operate(line: &mut [u8], count: usize) {
-    let word = arguments::word(line, count);
-    if arguments::letter(line, 0) == b'#' {
-        return;
+    if count > 0 {
+        if arguments::letter(line, 0) == b'#' {
+            return;
+        }
     }
+    let word = arguments::word(line, count);
     let taken = arguments::decoded(line, count);
     let ends = taken.ends;
     run(names::operation(word), line, ends, taken.count)

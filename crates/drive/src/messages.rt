@@ -1,4 +1,4 @@
-// Messages read and written.
+// Messages read, codes and rows; and how messages are said and made.
 use crate::arguments::argument;
 use crate::arguments::byte;
 use crate::arguments::number;

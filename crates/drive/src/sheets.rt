@@ -1,4 +1,4 @@
-// Sheet files, runs, sign-offs and trackers.
+// Sheet files, sign-offs and cells; and how sheets' answers are said.
 use crate::arguments::argument;
 use crate::arguments::byte;
 use crate::names;

@@ -11,7 +11,7 @@ use listing_pieces::piece::list_piece;
 // More than any listing has rows.
 const PIECES: u32 = 100000;
 
-// The listing through a buffer of a given length.
+// The listing, or the same through a buffer of a given length.
 pub(crate) fn operate(operation: usize, space: &[u8], ends: [usize; 14]) {
     let mut room = io::buffer();
     if operation == names::LISTING {

@@ -1,4 +1,4 @@
--- What the private functions compute. Nothing here need be believed: proofs/ ties each form to the definitions.
+-- What the private functions compute, here and in `frame_capture`. Nothing here need be believed: proofs/ ties each form to the definitions.
 use Prim.Native.Nat.{ℕ, _+_, _-_}
 use mathlib.Core.List.{List}
 use lib.Dec.{eqb, leb}

@@ -15,7 +15,7 @@ use Rattle.refusals.specs.Rule.{Rule, rule, ruled}
 use Rattle.refusals.specs.RulePromise.{FirstApplies}
 use Rattle.frame.specs.declared.direction.Direction.{Direction}
 use Rattle.frame.specs.declared.direction.Direction.the-variants.{Command, Answer}
-use Rattle.refusals.proofs.Ruled.{refuses, was-accepted, or-false, pass-first}
+use Rattle.refusals.proofs.Ruled.{refuses, or-false, pass-first}
 use Rattle.row.specs.Profile.{zonesOf}
 use Rattle.row.specs.Table.{rowOf}
 use Rattle.row.specs.declared.profile.Profile.{Profile}
@@ -172,18 +172,6 @@ module _ (profile : Profile) (dir : Direction) (zone command : ℕ) (body : List
       → refuses (judgeRules profile dir zone command body) ≡ false
   passes-judge row l long value =
       lies-refuses profile zone command row l (dataRules dir body) ∙ value-refuses row (length body) body (unfit row) dir (ap not) ∙ rw (long, value)
-
-  -- what is judged legal passes, in its row
-  pub judged-passes : (row : Row) → judgedOf profile dir zone command body ≡ Legal row
-      → (refuses (judgeRules profile dir zone command body) ≡ false) × (rowOf profile command ≡ found.Row row)
-  unfolding judgedOf
-  judged-passes row e =
-      let w = was-accepted (judgeRules profile dir zone command body) Refused (judgedBy (rowOf profile command)) (Legal row) e (λ n f. legal-differs row n (sym f)) in
-      (w .0, the-row (rowOf profile command) (w .1))
-    where
-      the-row : (f : Found) → judgedBy f ≡ Legal row → f ≡ found.Row row
-      the-row (found.Row r) g = ap found.Row (same-legal r row g)
-      the-row found.NoRow g = legal-differs row 2 (sym g)
 
 -- what holds of each rule's number holds of the first that applies; of rules of a row it is asked of two beside the row's own, and
 -- of what judges data of 3 as well, and of the numbers at 4's place

@@ -32,7 +32,6 @@ use Rattle.message.specs.declared.read.Reading.the-variants as reading
 use Rattle.message.specs.declared.read.FrameReading.{FrameReading}
 use Rattle.message.specs.declared.read.FrameReading.the-variants as frame
 use Rattle.message.specs.declared.read.Message.the-variants as message
-use Rattle.judging.proofs.Judges.{judge-passes, judged-passes, length-some}
 
 -- what is made of an answer by rules goes by the same rules
 ruled-map : {A B : Type 0} (h : A → B) (rs : List Rule) (refuse : ℕ → A) (accepted : A) → h (ruled rs refuse accepted) ≡ ruled rs (λ n. h (refuse n)) (h accepted)

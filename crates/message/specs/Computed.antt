@@ -1,4 +1,4 @@
--- What the private functions compute: nothing here need be believed. How a refusal's number is passed on, from one answer's kind
+-- What the private functions of the crates of code compute: nothing here need be believed. How a refusal's number is passed on, from one answer's kind
 -- to the next (what is no refusal never comes there); what a command or a status says; what an answer with another code than 00
 -- reads as; and whether a message is a denial.
 use Prim.Native.Nat.{ℕ}

@@ -1,4 +1,4 @@
--- What a private function computes. It need not be believed: proofs/ ties it to the table.
+-- What private functions of `row_table` compute. It need not be believed: the proofs there tie it to the table.
 use Prim.Native.Nat.{ℕ}
 use mathlib.Core.Bool.{Bool, true, cond, not}
 use mathlib.Core.List.{List}

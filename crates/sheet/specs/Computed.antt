@@ -1,4 +1,4 @@
--- What a private function computes. It need not be believed: proofs/ ties it to the definitions.
+-- What a private function of `sheet_code` computes. It need not be believed: proofs/ ties it to the definitions.
 use Prim.Native.Nat.{ℕ}
 use mathlib.Core.List.{List}
 use Rattle.refusals.specs.Rule.{ruled}

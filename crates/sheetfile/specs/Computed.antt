@@ -1,4 +1,4 @@
--- What the private functions compute. Nothing here need be believed: proofs/ ties each form to the definitions.
+-- What the private functions of `sheetfile_code` compute. Nothing here need be believed: proofs/ ties each form to the definitions.
 use Prim.Native.Nat.{ℕ, _+_}
 use mathlib.Core.Bool.{cond}
 use mathlib.Core.List.{List}
