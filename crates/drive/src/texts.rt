@@ -4,9 +4,9 @@ use crate::arguments::number;
 use crate::names;
 use crate::out::say;
 use crate::writes::shorter;
+use listing_code::piece::list_piece;
 use listing_pieces::piece::Piece;
 use listing_pieces::piece::Place;
-use listing_pieces::piece::list_piece;
 
 // More than any listing has rows.
 const PIECES: u32 = 100000;

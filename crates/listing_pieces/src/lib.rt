@@ -1,5 +1,4 @@
-// The listing of an input given out piece by piece, since no buffer of a fixed size holds each: `piece` puts whole lines at
-// the head of a lent buffer as long as there is room for any line, and says where the next piece goes on.
-mod event;
+// The listing of an input given out piece by piece, since no buffer of a fixed size holds each: where a listing goes on and
+// what a piece is (`piece`), and what a line shows of a message (`event`). `listing_code` gives the pieces out.
+pub mod event;
 pub mod piece;
-mod put;
