@@ -17,6 +17,7 @@ pub fn is_digit(byte: u8) -> bool
 }
 
 // One of the characters from the first to the last.
+#[tactic(auto, unfolding(crate::specs::Class::is_from))]
 pub(crate) fn is_from(first: u8, last: u8, byte: u8) -> bool
     ensures { result ≡ is_from first last byte }
 {

@@ -7,13 +7,14 @@ use crate::class::{is_digit, is_from};
 use lent::written::{Written, lacks_room};
 
 // What a character counts as a hex digit, where it is one.
-#[derive(Drop)]
+#[derive(Clone, Copy)]
 pub enum HexValue {
     Value(u8),
     NotHex,
 }
 
 // The value of a hex digit; the letters are capitals.
+#[tactic(auto, using(crate::proofs::Classes::bounds, crate::proofs::Hexes::value_digit, crate::proofs::Hexes::value_letter, crate::proofs::Hexes::value_none))]
 pub fn hex_value(byte: u8) -> HexValue
     ensures { result ≡ hex_value byte }
 {
@@ -27,6 +28,7 @@ pub fn hex_value(byte: u8) -> HexValue
 }
 
 // The hex digit of a value's low four bits. A `match` that gives one number an arm is a constant table.
+#[tactic(auto, using(lists::proofs::Past::past_all))]
 pub fn hex_digit(value: u8) -> u8
     ensures { result ≡ hex_digit (value % 16) }
 {
@@ -51,6 +53,7 @@ pub fn hex_digit(value: u8) -> u8
 }
 
 // Writes a byte as two hex digits; 9 where there is no room for them, and then the buffer is as it was.
+#[tactic(auto, using(lent::proofs::Room::room_within, crate::proofs::Rooms::refused, crate::proofs::Rooms::written))]
 pub fn write_hex(buf: &mut [u8], at: usize, byte: u8) -> Written
     ensures answers { result ≡ write_answered [] buf.old at (hex_byte byte) }
     ensures leaves { buf.new ≡ write_left [] buf.old at (hex_byte byte) }

@@ -11,7 +11,7 @@ const NO_DIGIT: u8 = 16;
 
 // What is taken of a line: how many words have ended, where the bytes of each end, how many bytes there are so far, and
 // the digit that waits for its second.
-#[derive(Drop)]
+#[derive(Clone, Copy)]
 pub(crate) struct Taken {
     pub(crate) count: usize,
     pub(crate) ends: [usize; 14],

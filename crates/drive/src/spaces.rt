@@ -13,7 +13,7 @@ const PAIRS: u32 = 65536;
 const MESSAGES: u32 = 16777216;
 
 // How many messages were accepted, at 0, and how many got each refusal, at its number.
-#[derive(Drop)]
+#[derive(Clone, Copy)]
 pub(crate) struct Counts {
     of: [u64; 14],
 }

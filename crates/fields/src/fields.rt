@@ -6,7 +6,7 @@ use frame::direction::Direction;
 use frame::reader::Reader;
 
 // What a frame brings beside its data. A command has no answer code: 0 stands for it.
-#[derive(Drop)]
+#[derive(Clone, Copy)]
 pub struct Fields {
     pub zone: u8,
     pub command: u8,
@@ -14,13 +14,14 @@ pub struct Fields {
 }
 
 // What bytes bring: the fields of the one frame that they are, or nothing.
-#[derive(Drop)]
+#[derive(Clone, Copy)]
 pub enum Brought {
     Frame(Fields),
     NotOneFrame,
 }
 
 // The zone, command and answer code of the bytes of one whole frame.
+#[tactic(auto, using(frame::proofs::Header::header_least, crate::proofs::Whole::is_whole))]
 pub fn frame_fields(direction: Direction, bytes: &[u8]) -> Brought
     ensures { result ≡ fields_of direction bytes.now }
 {
@@ -35,6 +36,7 @@ pub fn frame_fields(direction: Direction, bytes: &[u8]) -> Brought
 }
 
 // The data of the bytes of one whole frame: a part of what is lent. Bytes that are no whole frame have none.
+#[tactic(auto, using(frame::proofs::Header::header_least, crate::proofs::Whole::is_whole))]
 pub fn frame_data(direction: Direction, bytes: &[u8]) -> &[u8]
     ensures { result.now ≡ data_of direction bytes.now }
 {
@@ -47,6 +49,7 @@ pub fn frame_data(direction: Direction, bytes: &[u8]) -> &[u8]
 }
 
 // Whether the bytes are one whole frame: 21 first, as many as Dl says, 0D last.
+#[tactic(auto, unfolding(crate::specs::Fields::is_frame), using(frame::proofs::Header::header_least, crate::proofs::Whole::wrong_length_lem))]
 fn is_frame(direction: Direction, bytes: &[u8]) -> bool
     ensures { result ≡ is_frame direction bytes.now }
 {

@@ -10,6 +10,7 @@ use lent::written::{Written, lacks_room, write_bytes};
 // Writes a frame of any zone, command and answer code into the rest of the buffer from a place: 3
 // for data over 255, then 9 where there is no room, and then the buffer is as it was. A command has
 // no answer code, so none is written.
+#[tactic(auto, unfolding(lent::specs::Written::write_answered, lent::specs::Written::write_left), using(frame::proofs::Header::frame_length_lem, lent::proofs::Room::room_place, lent::proofs::Room::room_within, lent::proofs::Tail::tail_placed, lent::proofs::Writes::write_nine, lent::proofs::Writes::write_there))]
 pub fn write_raw(
     direction: Direction,
     buf: &mut [u8],
@@ -35,6 +36,7 @@ pub fn write_raw(
 }
 
 // The frame at the head of the tail that it is lent.
+#[tactic(auto, unfolding(frame::specs::Frame::frame_of), using(frame::proofs::Header::header_length, crate::proofs::Put::frame_done_lem))]
 fn put_frame(tail: &mut [u8], direction: Direction, zone: u8, command: u8, answer: u8, body: &[u8])
     requires { (length body.now ≤ data_limit) × (frame_length direction (length body.now) ≤ length tail.old) }
     ensures { tail.new ≡ frame_of direction zone command answer body.now ++ drop (frame_length direction (length body.now)) tail.old }
@@ -46,6 +48,7 @@ fn put_frame(tail: &mut [u8], direction: Direction, zone: u8, command: u8, answe
 }
 
 // The header at the head of the tail.
+#[tactic(auto, using(frame::proofs::Header::header_least))]
 fn put_header(tail: &mut [u8], direction: Direction, zone: u8, command: u8, answer: u8, count: u8)
     requires { header direction ≤ length tail.old }
     ensures { tail.new ≡ header_of direction zone command answer count ++ drop (header direction) tail.old }

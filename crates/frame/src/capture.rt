@@ -1,5 +1,5 @@
 // What the bytes of a stretch of a capture are.
-#[derive(Drop)]
+#[derive(Clone, Copy)]
 pub enum Kind {
     Frame,
     Broken,
@@ -8,21 +8,21 @@ pub enum Kind {
 }
 
 // A stretch of a capture: where it starts, how many bytes it has, and what they are.
-#[derive(Drop)]
+#[derive(Clone, Copy)]
 pub struct Event {
     pub at: usize,
     pub length: usize,
     pub kind: Kind,
 }
 
-#[derive(Drop)]
+#[derive(Clone, Copy)]
 pub enum Next {
     Event(Event),
     End,
 }
 
 // How many bytes of a capture are of each kind.
-#[derive(Drop)]
+#[derive(Clone, Copy)]
 pub struct Totals {
     pub frame: usize,
     pub broken: usize,
@@ -30,7 +30,7 @@ pub struct Totals {
     pub pending: usize,
 }
 
-#[derive(Drop)]
+#[derive(Clone, Copy)]
 pub enum Counted {
     Totals(Totals),
     Refused(u8),

@@ -2,20 +2,21 @@ ghost use Rattle.std.specs.Prelude.{◌≡◌};
 ghost use Rattle.frame.specs.Letter.{direction_of};
 
 // Which way a frame goes: to the unit, or back from it.
-#[derive(Drop)]
+#[derive(Clone, Copy)]
 pub enum Direction {
     Command,
     Answer,
 }
 
 // What a direction letter names.
-#[derive(Drop)]
+#[derive(Clone, Copy)]
 pub enum NamedDirection {
     Direction(Direction),
     Refused(u8),
 }
 
 // `C` names commands and `R` answers; any other letter is refused with 12.
+#[tactic(auto, unfolding(crate::specs::Letter::direction_of))]
 pub fn direction_of(letter: u8) -> NamedDirection
     ensures { result ≡ direction_of letter }
 {

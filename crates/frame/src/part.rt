@@ -7,7 +7,7 @@ use crate::reader::{ByteAnswer, Reader};
 
 // A part of a stream, taken: the reader after it, and how many bytes it settled as each kind. The
 // bytes of an unfinished frame are not settled yet: the reader's `place` counts them.
-#[derive(Drop)]
+#[derive(Clone, Copy)]
 pub struct Part {
     pub reader: Reader,
     pub frame: usize,
@@ -16,6 +16,7 @@ pub struct Part {
 }
 
 // Takes a part of a stream from a given reader; the next part goes on from the reader it gives.
+#[tactic(auto, using(crate::proofs::Parts::part_from, crate::proofs::Parts::part_more, crate::proofs::Parts::part_end, crate::proofs::Parts::part_adds, crate::proofs::Parts::held, crate::proofs::Parts::held_more))]
 pub fn take_part(reader: Reader, bytes: &[u8]) -> Part
     ensures { result ≡ part_of reader bytes.now }
 {
@@ -34,6 +35,7 @@ pub fn take_part(reader: Reader, bytes: &[u8]) -> Part
 }
 
 // The part with one byte more.
+#[tactic(auto, unfolding(crate::specs::Capture::count), using(crate::proofs::Labels::count_replicate, crate::proofs::Parts::frame_most, crate::proofs::Parts::broken_most))]
 fn with_byte(part: Part, byte: u8) -> Part
     requires { part.frame + part.broken + part.noise + part.reader.place + 1 < 2 ^ 64 }
     ensures { result ≡ with_fed part (fed_of part.reader byte) }

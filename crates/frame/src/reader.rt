@@ -6,7 +6,7 @@ use crate::direction::Direction;
 
 // The answer to one byte. A frame and a broken stretch come with their length in bytes. The host
 // keeps the bytes: 261 of them are enough for the longest frame.
-#[derive(Drop)]
+#[derive(Clone, Copy)]
 pub enum ByteAnswer {
     Waiting,
     Noise,
@@ -16,7 +16,7 @@ pub enum ByteAnswer {
 
 // A reader for one direction. It keeps no bytes of the frame: `place` is how many are taken (0: it
 // stands outside), and `dl` is Dl, or 0 while Dl is still to come.
-#[derive(Drop)]
+#[derive(Clone, Copy)]
 pub struct Reader {
     pub direction: Direction,
     pub place: u16,
@@ -24,7 +24,7 @@ pub struct Reader {
 }
 
 // The reader after a byte, and the answer to that byte.
-#[derive(Drop)]
+#[derive(Clone, Copy)]
 pub struct Fed {
     pub reader: Reader,
     pub answer: ByteAnswer,
@@ -67,6 +67,7 @@ impl Reader {
 
     // Takes one byte. Whatever the fields hold is answered: a place past the end place counts as the
     // end place.
+    #[tactic(auto, using(crate::proofs::Header::header_most))]
     pub fn feed(self, byte: u8) -> Fed
         ensures { result ≡ fed_of self byte }
     {
@@ -82,6 +83,7 @@ impl Reader {
 }
 
 // One byte by the reader's rule, over the header's length.
+#[tactic(auto, unfolding(crate::specs::KeptReader::fed_at))]
 fn take(direction: Direction, header: u16, place: u16, dl: u8, byte: u8) -> Fed
     requires { header ≤ 5 }
     ensures { result ≡ fed_at direction header place dl byte }

@@ -12,6 +12,7 @@ pub const CAPTURE_LIMIT: usize = 60000;
 
 // The first event that a fresh reader makes of the bytes from a place on. Begin at 0 and go on at
 // each event's end: these are the capture's events. No length is refused here.
+#[tactic(auto, using(frame::proofs::Header::header_most, frame::proofs::Header::header_least, frame::proofs::Events::events_end, frame::proofs::Events::events_here))]
 pub fn next_event(direction: Direction, capture: &[u8], at: usize) -> Next
     ensures { result ≡ first_of (events_from direction capture.now at) }
 {
@@ -42,6 +43,7 @@ pub fn capture_totals_by_letter(letter: u8, capture: &[u8]) -> Counted
 }
 
 // The totals, event by event. Noise is passed over at once: it is what is left.
+#[tactic(auto, using(frame::proofs::Header::header_most, frame::proofs::Header::header_least, frame::proofs::Events::Within, frame::proofs::Events::stretch_within, frame::proofs::Totals::totals_from, frame::proofs::Totals::totals_more, frame::proofs::Totals::totals_end, frame::proofs::Totals::totals_whole, frame::proofs::Totals::sum, frame::proofs::Totals::sum_more, frame::proofs::Totals::noisy, frame::proofs::Totals::noisy_event, frame::proofs::Totals::noisy_all, frame::proofs::Totals::noise_here))]
 fn count_events(direction: Direction, capture: &[u8]) -> Totals
     ensures { result ≡ totals_of direction capture.now }
 {
@@ -102,6 +104,7 @@ fn add_event(totals: Totals, length: usize, kind: Kind) -> Totals
 
 // The stretch that starts at a place, over the header's length. It jumps over the data: no value
 // there ends or opens anything.
+#[tactic(auto, unfolding(frame::specs::Computed::stretch_at))]
 fn stretch(header: usize, capture: &[u8], at: usize) -> Event
     requires { (0 < header) × (header ≤ 5) × (at < length capture.now) }
     ensures { result ≡ stretch_at header capture.now at }

@@ -1,7 +1,7 @@
 use row::table::Row;
 
 // The row that a message belongs to, or the number of its refusal.
-#[derive(Drop)]
+#[derive(Clone, Copy)]
 pub enum Judged {
     Legal(Row),
     Refused(u8),

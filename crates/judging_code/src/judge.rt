@@ -8,6 +8,7 @@ use row::profile::Profile;
 use row::table::{Codes, Found, Row};
 
 // Judges zone, row, length and value of a message: 1 for the profile's zones, 2, 1 for the row's zones, 3, 4 or 13.
+#[tactic(auto, using(judging::proofs::Judges::judge_refused, judging::proofs::Judges::judge_legal, judging::proofs::Judges::length_some))]
 pub fn judge(profile: Profile, direction: Direction, zone: u8, command: u8, body: &[u8]) -> Judged
     ensures { result ≡ judged_of profile direction zone command body.now }
 {
@@ -25,6 +26,7 @@ pub fn judge(profile: Profile, direction: Direction, zone: u8, command: u8, body
 }
 
 // Judges zone and row alone.
+#[tactic(auto, unfolding(judging::specs::Judge::row_judged))]
 pub fn judge_row(profile: Profile, zone: u8, command: u8) -> Judged
     ensures { result ≡ row_judged profile zone command }
 {
@@ -45,6 +47,7 @@ pub fn judge_row(profile: Profile, zone: u8, command: u8) -> Judged
 }
 
 // Whether a row has these data in a direction.
+#[tactic(auto, using(judging::proofs::Judges::length_some))]
 pub fn data_fit(direction: Direction, row: Row, body: &[u8]) -> bool
     ensures { result ≡ has_data direction row body.now }
 {

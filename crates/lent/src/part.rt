@@ -3,6 +3,7 @@ ghost use Rattle.std.specs.Prelude.{◌≡◌};
 ghost use Rattle.lent.specs.Placed.{bytes_at, last_bytes};
 
 // The bytes at a place, as many as asked for: a part of what is lent. Where they are not all there, none.
+#[tactic(auto, unfolding(crate::specs::Placed::bytes_at))]
 pub fn bytes_at(bytes: &[u8], at: usize, length: usize) -> &[u8]
     ensures { result.now ≡ bytes_at bytes.now at length }
 {
@@ -17,6 +18,7 @@ pub fn bytes_at(bytes: &[u8], at: usize, length: usize) -> &[u8]
 
 // The last bytes of those that were kept, as many as asked for: of a live port, after the answer frame, the frame. Where
 // fewer are kept, none.
+#[tactic(auto, unfolding(crate::specs::Placed::last_bytes))]
 pub fn last_bytes(kept: &[u8], count: usize) -> &[u8]
     ensures { result.now ≡ last_bytes kept.now count }
 {

@@ -4,13 +4,14 @@ ghost use Rattle.std.proofs.Math.Seq.{paste};
 ghost use Rattle.lent.specs.Written.{lacks_room, write_answered, write_left};
 
 // What a write has done: how many bytes it wrote, or the number of its refusal.
-#[derive(Drop)]
+#[derive(Clone, Copy)]
 pub enum Written {
     Bytes(usize),
     Refused(u8),
 }
 
 // Writes bytes at a place; 9 where there is no room for them, and then the buffer is as it was.
+#[tactic(auto, using(crate::proofs::Room::room_within, crate::proofs::Writes::write_nine, crate::proofs::Writes::write_there))]
 pub fn write_bytes(buf: &mut [u8], at: usize, bytes: &[u8]) -> Written
     ensures answers { result ≡ write_answered [] buf.old at bytes.now }
     ensures leaves { buf.new ≡ write_left [] buf.old at bytes.now }
@@ -23,6 +24,7 @@ pub fn write_bytes(buf: &mut [u8], at: usize, bytes: &[u8]) -> Written
 }
 
 // Whether a buffer of some length has too few bytes from a place on, or the place is past its end: when 9 is given.
+#[tactic(auto, unfolding(crate::specs::Written::lacks_room))]
 pub fn lacks_room(length: usize, at: usize, count: usize) -> bool
     ensures { result ≡ lacks_room length at count }
 {

@@ -9,13 +9,14 @@ use frame_capture::capture::CAPTURE_LIMIT;
 use row::profile::{NamedProfile, Profile, profile_of};
 
 // The listing of the capture behind the letters, or the number of a refusal.
-#[derive(Drop)]
+#[derive(Clone, Copy)]
 pub enum Asked {
     Listing(Profile, Direction),
     Refused(u8),
 }
 
 // The two letters, and a capture of at most 60,000 bytes behind them.
+#[tactic(auto, using(crate::proofs::Asks::asked_short, crate::proofs::Asks::asked_letters))]
 pub fn what_is_asked(input: &[u8]) -> Asked
     ensures { result ≡ asked input.now }
 {

@@ -1,5 +1,5 @@
 // What the data of a message say, in the words of document 01.
-#[derive(Drop)]
+#[derive(Clone, Copy)]
 pub enum Content {
     Request,
     Up,
@@ -15,7 +15,7 @@ pub enum Content {
 }
 
 // The data that say it: one byte or two, or none where a number has no code.
-#[derive(Drop)]
+#[derive(Clone, Copy)]
 pub enum Encoded {
     One(u8),
     Two(u8, u8),

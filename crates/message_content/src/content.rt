@@ -9,6 +9,7 @@ use row::signed::Coded;
 use row::table::Row;
 
 // What data of one byte or two say in a row; no data say what a byte of 00 says.
+#[tactic(auto, unfolding(message::specs::Content::content_of))]
 pub fn content_of(direction: Direction, row: Row, body: &[u8]) -> Content
     ensures { result ≡ content_of direction row body.now }
 {
@@ -158,6 +159,7 @@ pub fn size_of(content: Content) -> usize
 }
 
 // Whether a row can say this in a direction: its data say it there.
+#[tactic(auto, unfolding(message::specs::Content::is_form))]
 pub fn is_form(direction: Direction, row: Row, content: Content) -> bool
     ensures { result ≡ is_form direction row content }
 {

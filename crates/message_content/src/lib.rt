@@ -1,2 +1,4 @@
 // What data say in a row, and what data say it.
+#![tactic(auto)]
+
 pub mod content;

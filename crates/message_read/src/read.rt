@@ -13,6 +13,7 @@ use message_content::content::content_of;
 use row::profile::Profile;
 
 // Reads a message from the bytes of one whole frame.
+#[tactic(auto, using(message::proofs::Readings::frame_none, message::proofs::Readings::frame_some))]
 pub fn read_frame(profile: Profile, direction: Direction, bytes: &[u8]) -> FrameReading
     ensures { result ≡ frame_read profile direction bytes.now }
 {
@@ -36,6 +37,7 @@ pub fn read_frame(profile: Profile, direction: Direction, bytes: &[u8]) -> Frame
 }
 
 // Reads a message from what a frame brings. The answer code of a command is not looked at.
+#[tactic(auto, using(message::proofs::Readings::message_refused, message::proofs::Readings::message_said, message::proofs::Readings::read_other, message::proofs::Readings::read_saying))]
 pub fn read_message(
     profile: Profile,
     direction: Direction,
@@ -58,6 +60,7 @@ pub fn read_message(
 
 // The data of the denied message that the bytes of a frame are, as they came: a part of the bytes lent. Other
 // messages have theirs in their content.
+#[tactic(auto, using(message::proofs::Readings::denied_some, message::proofs::Readings::denied_none))]
 pub fn denied_data(profile: Profile, direction: Direction, bytes: &[u8]) -> &[u8]
     ensures { result.now ≡ denied_in (frame_read profile direction bytes.now) (data_of direction bytes.now) }
 {

@@ -71,6 +71,7 @@ pub fn write_message(
 
 // Writes fields and data as the message that they are, with the numbers that reading them would give, then 9:
 // minus zero is written as 00. The answer code of a command is not looked at.
+#[tactic(auto, using(message::proofs::Writes::fields_refused, message::proofs::Writes::fields_message))]
 pub fn write_fields(
     profile: Profile,
     direction: Direction,
@@ -92,6 +93,7 @@ pub fn write_fields(
 }
 
 // Only 5, then 3 for data over 255, then 9: what a unit denies is not checked.
+#[tactic(auto, unfolding(lent::specs::Written::write_answered, lent::specs::Written::write_left))]
 fn write_denied(
     buf: &mut [u8],
     at: usize,
@@ -113,6 +115,7 @@ fn write_denied(
 }
 
 // A command or a status, once its zone, row, length and form are judged.
+#[tactic(auto, using(message::proofs::Writes::said_refused, message::proofs::Writes::said_length, message::proofs::Writes::said_form, message::proofs::Writes::said_good))]
 fn write_said(
     profile: Profile,
     direction: Direction,

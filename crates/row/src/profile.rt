@@ -2,20 +2,21 @@ ghost use Rattle.std.specs.Prelude.{◌≡◌};
 ghost use Rattle.row.specs.Profile.{profile_of, letter_of, zones_of};
 
 // A receiver family: A is the AVR500, AVR600 and AV888, S the SA750.
-#[derive(Drop)]
+#[derive(Clone, Copy)]
 pub enum Profile {
     A,
     S,
 }
 
 // What a profile letter names.
-#[derive(Drop)]
+#[derive(Clone, Copy)]
 pub enum NamedProfile {
     Profile(Profile),
     Refused(u8),
 }
 
 // `A` and `S` name themselves; any other letter is refused with 12.
+#[tactic(auto, unfolding(crate::specs::Profile::profile_of))]
 pub fn profile_of(letter: u8) -> NamedProfile
     ensures { result ≡ profile_of letter }
 {

@@ -6,13 +6,14 @@ ghost use Rattle.row.specs.MinusZero.{is_minus_zero};
 use crate::table::Row;
 
 // A number's code, if it has one.
-#[derive(Drop)]
+#[derive(Clone, Copy)]
 pub enum Coded {
     Code(u8),
     NoCode,
 }
 
 // The number that `code` means: 00 to 7F themselves, 80 and up minus (code less 80 hex).
+#[tactic(auto, unfolding(crate::specs::Signed::number_of), using(crate::proofs::Ranges::less, crate::proofs::Ranges::minus_fits))]
 pub fn number_of(code: u8) -> i16
     ensures { result ≡ number_of code }
 {
@@ -23,6 +24,7 @@ pub fn number_of(code: u8) -> i16
 }
 
 // The code that means `number`, or none where none does; 0 gives 00, never 80.
+#[tactic(auto, using(crate::proofs::Ranges::none_below, crate::proofs::Ranges::none_above, crate::proofs::Ranges::Codes, crate::proofs::Ranges::minus, crate::proofs::Ranges::itself))]
 pub fn code_of(number: i16) -> Coded
     ensures { result ≡ code_of number }
 {
@@ -39,6 +41,7 @@ pub fn code_of(number: i16) -> Coded
 }
 
 // The code that means `number` in a row that is not signed: codes mean themselves there.
+#[tactic(auto, using(crate::proofs::Ranges::plain_below, crate::proofs::Ranges::plain_above, crate::proofs::Ranges::plain_itself))]
 pub fn plain_code_of(number: i16) -> Coded
     ensures { result ≡ plain_code_of number }
 {

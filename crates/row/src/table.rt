@@ -1,12 +1,12 @@
 // Codes from low to high; none where low is above high.
-#[derive(Drop)]
+#[derive(Clone, Copy)]
 pub struct Codes {
     pub low: u8,
     pub high: u8,
 }
 
 // A row of document 01's table: what a command may hold, and what an answer may.
-#[derive(Drop)]
+#[derive(Clone, Copy)]
 pub struct Row {
     // its place in the table, from 0
     pub place: usize,
@@ -39,7 +39,7 @@ pub struct Row {
     pub sheet: bool,
 }
 
-#[derive(Drop)]
+#[derive(Clone, Copy)]
 pub enum Found {
     Row(Row),
     NoRow,

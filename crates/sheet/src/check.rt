@@ -1,5 +1,5 @@
 // What the check of a sheet says: accepted, or the number and the line's index.
-#[derive(Drop)]
+#[derive(Clone, Copy)]
 pub enum Verdict {
     Accepted,
     Refused(u8, usize),

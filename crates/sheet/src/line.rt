@@ -1,5 +1,5 @@
 // A line of a sheet: the value that a row is to have in a zone.
-#[derive(Drop)]
+#[derive(Clone, Copy)]
 pub struct Line {
     pub zone: u8,
     pub command: u8,

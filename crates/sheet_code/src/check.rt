@@ -11,6 +11,7 @@ use sheet::line::Line;
 use sheet::sheet::{SHEET_LIMIT, Sheet};
 
 // 6, then the lowest line at fault, with its index; for 6 that is the limit.
+#[tactic(auto, using(sheet::proofs::Faults::verdict_long, sheet::proofs::Faults::verdict_short))]
 pub fn checked(profile: Profile, sheet: Sheet) -> Verdict
     ensures { result ≡ sheet_verdict profile (lines_of sheet) }
 {
@@ -23,6 +24,7 @@ pub fn checked(profile: Profile, sheet: Sheet) -> Verdict
 }
 
 // The lowest line at fault among the first lines.
+#[tactic(auto, using(sheet::proofs::Faults::goes_on, sheet::proofs::Faults::stops, sheet::proofs::Faults::ends, sheet::proofs::Faults::first_short))]
 fn lowest(profile: Profile, lines: [Line; SHEET_LIMIT], count: usize) -> Verdict
     requires { count ≤ sheet_limit }
     ensures { result ≡ lowest_fault profile [] (first_lines lines count) }
@@ -54,6 +56,7 @@ fn fault_of(profile: Profile, lines: [Line; SHEET_LIMIT], i: usize) -> u8
 }
 
 // Whether one of the first lines has the zone and row of this one.
+#[tactic(auto, using(sheet::proofs::Repeats::hit, sheet::proofs::Repeats::miss, sheet::proofs::Repeats::passed))]
 fn repeats(lines: [Line; SHEET_LIMIT], count: usize, line: Line) -> bool
     requires { count ≤ sheet_limit }
     ensures { result ≡ is_repeated (take count lines) line }

@@ -10,6 +10,7 @@ use sheet::line::Line;
 
 // Whether a line is legal for a sheet: a zone of the profile and the row, a sheet row, one of its setting codes
 // but not minus zero.
+#[tactic(auto, unfolding(sheet::specs::Line::is_legal))]
 pub fn is_legal(profile: Profile, line: Line) -> bool
     ensures { result ≡ is_legal profile line }
 {

@@ -19,6 +19,7 @@ pub fn no_lines() -> Sheet
 }
 
 // The sheet with one line more; past the limit no line is kept, and the count stands at one more than the limit.
+#[tactic(auto, unfolding(sheet::specs::Sheet::with_line))]
 pub fn with_line(sheet: Sheet, line: Line) -> Sheet
     ensures { result ≡ with_line sheet line }
 {

@@ -12,6 +12,7 @@ use sheet::check::Verdict;
 use sheetfile::write::{Form, SheetWritten};
 
 // The check of a sheet that comes as its file: 12 for a letter that names no profile, then the file's refusals.
+#[tactic(auto, using(sheetfile::proofs::Plains::verdict_by))]
 pub fn check_file(letter: u8, file: &[u8]) -> Verdict
     ensures { result ≡ file_verdict_by (profile_of letter) file.now }
 {
@@ -47,6 +48,7 @@ fn write_by(form: Form, letter: u8, file: &[u8], buf: &mut [u8], at: usize) -> S
 }
 
 // The file's refusals first.
+#[tactic(auto, using(sheetfile::proofs::Plains::refused_answer, sheetfile::proofs::Plains::refused_left, sheetfile::proofs::Plains::as_answer, sheetfile::proofs::Plains::as_left))]
 fn write_read(form: Form, profile: Profile, file: &[u8], buf: &mut [u8], at: usize) -> SheetWritten
     ensures answers { result ≡ sheet_answered (file_verdict profile file.now) buf.old at (file_as form file.now) }
     ensures leaves { buf.new ≡ sheet_left (file_verdict profile file.now) buf.old at (file_as form file.now) }

@@ -29,6 +29,7 @@ pub fn read_file_by_letter(letter: u8, file: &[u8]) -> FileRead
 
 // Reads a sheet file: 10 where its length is not whole records, then for the lowest record with a wrong mark
 // or profile; then the sheet's checks.
+#[tactic(auto, using(sheetfile::proofs::Files::file_broken, sheetfile::proofs::Files::file_whole))]
 pub fn read_file(profile: Profile, file: &[u8]) -> FileRead
     ensures { result ≡ file_read profile file.now }
 {
@@ -53,6 +54,7 @@ fn file_refused(number: u8, place: usize) -> FileRead
 }
 
 // The lines of a file of whole records, by the sheet's checks.
+#[tactic(auto, using(sheet::proofs::Sheets::verdict_together))]
 fn read_lines(profile: Profile, file: &[u8], count: usize) -> FileRead
     requires { count * record_size ≡ length file.now }
     ensures { result ≡ read_by (sheet_verdict profile (lines_in (records file.now))) (lines_in (records file.now)) }
@@ -68,6 +70,7 @@ fn read_lines(profile: Profile, file: &[u8], count: usize) -> FileRead
 }
 
 // The lowest record with a wrong mark or profile.
+#[tactic(auto, using(sheetfile::proofs::Records::marked_on, sheetfile::proofs::Records::marked_not, sheetfile::proofs::Records::marked_end))]
 fn lowest_wrong(profile: Profile, file: &[u8], count: usize) -> Verdict
     requires { count * record_size ≡ length file.now }
     ensures { result ≡ lowest_wrong profile 0 (records file.now) }
@@ -97,6 +100,7 @@ fn is_marked(profile: Profile, file: &[u8], at: usize) -> bool
 }
 
 // The lines of a file of whole records.
+#[tactic(auto, using(sheetfile::proofs::Records::lines_on, sheetfile::proofs::Records::lines_end))]
 fn lines_in(file: &[u8], count: usize) -> Sheet
     requires { count * record_size ≡ length file.now }
     ensures { result ≡ with_all no_lines (lines_in (records file.now)) }

@@ -42,6 +42,7 @@ pub fn put_run(buf: &mut [u8], at: usize, profile: Profile, sheet: Sheet) -> She
 }
 
 // The sheet's checks first.
+#[tactic(auto, using(sheet::proofs::Sheets::accepted_short))]
 pub(crate) fn put_sheet(
     form: Form,
     profile: Profile,
@@ -62,6 +63,7 @@ pub(crate) fn put_sheet(
 }
 
 // Then 9 for all of it, before the first byte.
+#[tactic(auto, using(lent::proofs::Room::room_place, lent::proofs::Room::room_within, lent::proofs::Tail::tail_placed, lent::proofs::Writes::write_nine, lent::proofs::Writes::write_there, sheet::proofs::Faults::first_short, sheet::proofs::Faults::first_many, sheetfile::proofs::Filled::sheet_length, sheetfile::proofs::Filled::zeros_most))]
 fn put_accepted(
     form: Form,
     profile: Profile,
@@ -103,6 +105,7 @@ fn flush_of(count: usize) -> usize
 }
 
 // The zeros, and then the lines in their own tail.
+#[tactic(auto, using(sheetfile::proofs::Filled::filled_tail, sheetfile::proofs::Filled::in_order_length, sheetfile::proofs::Filled::bytes_six, sheetfile::proofs::Filled::sheet_bytes_lem))]
 fn put_bytes(
     tail: &mut [u8],
     form: Form,
@@ -119,6 +122,7 @@ fn put_bytes(
 }
 
 // Zeros at the head of the tail.
+#[tactic(auto, using(sheetfile::proofs::Filled::zeros_more))]
 fn put_zeros(tail: &mut [u8], count: usize)
     requires { count ≤ length tail.old }
     ensures { tail.new ≡ replicate count 0 ++ drop count tail.old }
@@ -131,6 +135,7 @@ fn put_zeros(tail: &mut [u8], count: usize)
 }
 
 // Each line in its own tail.
+#[tactic(auto, unfolding(lists::specs::InOrder::in_order), using(sheetfile::proofs::Filled::filled_tail, sheetfile::proofs::Filled::in_order_more, sheetfile::proofs::Filled::in_order_length, sheetfile::proofs::Filled::bytes_six))]
 fn put_lines(
     tail: &mut [u8],
     form: Form,
@@ -173,6 +178,7 @@ fn put_record(tail: &mut [u8], profile: Profile, line: Line)
 }
 
 // The frame of the command that sets a line's value, by the frame writer.
+#[tactic(auto, unfolding(frame::specs::Frame::frame_of), using(fields::proofs::Raws::raw_left))]
 fn put_command(tail: &mut [u8], line: Line)
     requires { record_size ≤ length tail.old }
     ensures { tail.new ≡ line_frame line ++ drop record_size tail.old }

@@ -4,7 +4,7 @@ use tracker::tracker::Tracker;
 
 // A sheet file held against a capture of answers: the sign-off, and what it goes by, which is the tracker that the capture
 // was fed to and the file's lines.
-#[derive(Drop)]
+#[derive(Clone, Copy)]
 pub struct HeldFile {
     pub signed: Signed,
     pub tracker: Tracker,
@@ -12,7 +12,7 @@ pub struct HeldFile {
 }
 
 // What a capture of answers makes known of a row and zone, or the number of the refusal.
-#[derive(Drop)]
+#[derive(Clone, Copy)]
 pub enum CaptureCell {
     Value(u8),
     Unknown,

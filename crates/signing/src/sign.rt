@@ -1,5 +1,5 @@
 // What a sign-off says: yes, no, or a refusal with its place.
-#[derive(Drop)]
+#[derive(Clone, Copy)]
 pub enum Signed {
     Yes,
     No,

@@ -32,6 +32,7 @@ pub fn sign_file(letter: u8, file: &[u8], capture: &[u8]) -> Signed
 
 // Signs a sheet file off in the same way, and gives the tracker and the lines with it, for whoever says which lines do not
 // hold: the capture is fed once, and the file read once. With a refusal the tracker knows nothing, and there are no lines.
+#[tactic(auto, using(signing::proofs::Plains::read_room, signing::proofs::Plains::held_signed))]
 pub fn hold_file(profile: Profile, file: &[u8], capture: &[u8]) -> HeldFile
     ensures { result ≡ held_file profile file.now capture.now }
 {
@@ -56,6 +57,7 @@ pub fn cell_in_capture(letter: u8, capture: &[u8], zone: u8, command: u8) -> Cap
     }
 }
 
+#[tactic(auto, using(signing::proofs::Plains::as_signed))]
 fn sign_file_by(profile: Profile, file: &[u8], capture: &[u8]) -> Signed
     ensures { result ≡ file_signed profile file.now capture.now }
 {
@@ -97,6 +99,7 @@ fn held_as(signed: Signed, new: Tracker, fed: Tracker, lines: Sheet) -> HeldFile
     }
 }
 
+#[tactic(auto, using(signing::proofs::Plains::cell_fed, signing::proofs::Plains::cell_refused))]
 fn cell_by(profile: Profile, capture: &[u8], zone: u8, command: u8) -> CaptureCell
     ensures { result ≡ capture_cell profile capture.now zone command }
 {

@@ -13,6 +13,7 @@ use tracker_code::known::kept_in;
 
 // The sheet's refusal under the tracker's own profile; else yes exactly when every line's cell is known
 // and equal.
+#[tactic(auto, using(sheet::proofs::Sheets::accepted_short))]
 pub fn sign_sheet(tracker: Tracker, sheet: Sheet) -> Signed
     ensures { result ≡ sign_off tracker (lines_of sheet) }
 {
@@ -43,6 +44,7 @@ fn yes_or_no(agrees: bool) -> Signed
 }
 
 // Whether each of the first lines has its cell known and equal.
+#[tactic(auto, using(sheet::proofs::Faults::first_short, signing::proofs::Signs::stops, signing::proofs::Signs::goes_on, signing::proofs::Signs::ends))]
 fn all_hold(tracker: Tracker, lines: [Line; SHEET_LIMIT], count: usize) -> bool
     requires { count ≤ sheet_limit }
     ensures { result ≡ all_hold tracker (first_lines lines count) }

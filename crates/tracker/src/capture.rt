@@ -1,14 +1,14 @@
 use crate::tracker::Tracker;
 
 // Whether a capture was fed, or the number of its refusal.
-#[derive(Drop)]
+#[derive(Clone, Copy)]
 pub enum CaptureAnswer {
     Fed,
     Refused(u8),
 }
 
 // A tracker once a capture was fed.
-#[derive(Drop)]
+#[derive(Clone, Copy)]
 pub struct CaptureFed {
     pub tracker: Tracker,
     pub answer: CaptureAnswer,

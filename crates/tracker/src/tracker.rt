@@ -2,7 +2,7 @@ use crate::cell::CELLS;
 use row::profile::Profile;
 
 // What one unit has answered since its tracker was made new.
-#[derive(Drop)]
+#[derive(Clone, Copy)]
 pub struct Tracker {
     pub profile: Profile,
     // a state and a byte for each cell
@@ -11,7 +11,7 @@ pub struct Tracker {
 }
 
 // What a tracker keeps of a row and zone.
-#[derive(Drop)]
+#[derive(Clone, Copy)]
 pub enum Kept {
     Value(u8),
     Unknown,

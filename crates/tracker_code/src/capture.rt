@@ -35,6 +35,7 @@ pub fn after_capture(tracker: Tracker, capture: &[u8]) -> CaptureFed
 
 // The events of a capture, one after another. The tracker stays in this function's own local, and each event answers with
 // a cell and its byte: a tracker that is passed on and given back is copied for every event.
+#[tactic(auto, using(frame::proofs::Leads::leads, tracker::proofs::Captures::feeds_told, tracker::proofs::Captures::feeds_end, tracker::proofs::Tells::inside_at))]
 fn feed_events(tracker: Tracker, capture: &[u8]) -> Tracker
     ensures { result ≡ answers_fed tracker (brought_by capture.now) }
 {

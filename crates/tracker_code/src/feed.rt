@@ -18,6 +18,7 @@ use tracker::feed::{AnswerFed, Told};
 use tracker::tracker::Tracker;
 
 // Feeds what an answer's frame brings, read under the tracker's own profile.
+#[tactic(auto, using(tracker::proofs::Tells::tells, tracker::proofs::Tells::inside))]
 pub fn after_answer(tracker: Tracker, zone: u8, command: u8, answer: u8, body: &[u8]) -> AnswerFed
     ensures { result ≡ answer_fed tracker zone command answer body.now }
 {
@@ -65,6 +66,7 @@ pub(crate) fn told_by(profile: Profile, zone: u8, command: u8, answer: u8, body:
 }
 
 // What the one byte of an accepted answer makes known; a row of pairs has no cell.
+#[tactic(auto, using(tracker::proofs::Cells::stands))]
 fn told_in(profile: Profile, zone: u8, command: u8, byte: u8) -> Told
     ensures { result ≡ told_in (row_judged profile zone command) zone byte }
 {

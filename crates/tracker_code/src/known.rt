@@ -25,6 +25,7 @@ pub fn new_tracker(profile: Profile) -> Tracker
 }
 
 // The byte that is known of a row and zone.
+#[tactic(auto, unfolding(tracker::specs::Tracker::kept_in), using(tracker::proofs::Cells::stands, tracker::proofs::Cells::within))]
 pub fn kept_in(tracker: Tracker, zone: u8, command: u8) -> Kept
     ensures { result ≡ kept_in tracker zone command }
 {

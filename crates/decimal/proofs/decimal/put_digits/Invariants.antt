@@ -1,0 +1,17 @@
+use mathlib.Core.Path.{◌≡◌, refl, sym, ap, ◌∙◌}
+use mathlib.Core.List.{List, [], ◌∷◌, ◌++◌, append-nil}
+use Prim.Native.Nat.{ℕ, suc, ◌+◌, ◌-◌, ◌%◌, ◌≤◌, ◌<◌}
+use native.Mathlib.Omega.{arith}
+use lib.ListN.{length, take, drop, length-set, take-append-drop}
+use Rattle.characters.specs.Decimal.{digit}
+use Rattle.characters.specs.Computed.{last_digits}
+use Rattle.characters.proofs.Digits.{digits_count, digit_before, set_before}
+use Rattle.decimal.proofs.decimal.put_digits.Given as goal
+
+abbrev pub invariant-loop : goal.invariant-loop
+invariant-loop l =
+    (later : List ℕ) × (l.i ≤ l.count) × (length l.buf ≡ length l.initial.buf) × (last_digits l.count l.number ≡ last_digits l.i l.rest ++ later)
+    × (l.buf ≡ take (l.at + l.i) l.initial.buf ++ (later ++ drop (l.at + l.count) l.initial.buf))
+
+abbrev pub decreases-loop : goal.decreases-loop
+decreases-loop l = l.i

@@ -1,0 +1,14 @@
+use mathlib.Core.Path.{◌≡◌, sym, ◌∙◌}
+use Prim.Native.Nat.{◌-◌, ◌*◌, ◌≤◌}
+use lib.ListN.{drop}
+use Rattle.sheet.specs.Sheet.{with_all}
+use Rattle.sheetfile.specs.File.{record_size, records, lines_in}
+use Rattle.sheetfile.proofs.Records.{lines_on, lines_end}
+use Rattle.sheetfile_code.proofs.file.lines_in.Given as goal
+
+abbrev pub invariant-loop : goal.invariant-loop
+invariant-loop l =
+    (l.i ≤ l.count) × (with_all l.initial.sheet (lines_in (records l.file)) ≡ with_all l.sheet (lines_in (records (drop (l.i * record_size) l.file))))
+
+abbrev pub decreases-loop : goal.decreases-loop
+decreases-loop l = l.count - l.i

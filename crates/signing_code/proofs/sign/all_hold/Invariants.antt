@@ -1,0 +1,15 @@
+use mathlib.Core.Path.{◌≡◌, sym, ap, ◌∙◌}
+use Prim.Native.Nat.{◌-◌, ◌≤◌}
+use borrow.Author.Tests.{not-true, not-false}
+use lib.ListN.{length, take, drop}
+use Rattle.sheet.specs.Sheet.{no_line}
+use Rattle.sheet.proofs.Faults.{first_short}
+use Rattle.signing.specs.Sign.{all_hold}
+use Rattle.signing.proofs.Signs.{stops, goes_on, ends}
+use Rattle.signing_code.proofs.sign.all_hold.Given as goal
+
+abbrev pub invariant-loop : goal.invariant-loop
+invariant-loop l = (l.i ≤ l.count) × (all_hold l.tracker (take l.count l.lines) ≡ all_hold l.tracker (drop l.i (take l.count l.lines)))
+
+abbrev pub decreases-loop : goal.decreases-loop
+decreases-loop l = l.count - l.i
