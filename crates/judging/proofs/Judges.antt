@@ -129,7 +129,7 @@ module _ (row : Row) (n : ℕ) (body : List ℕ) (unfit : Bool) where
 
   pub value_refuses : (dir : Direction) → (has_value dir row body ≡ false → unfit ≡ true)
       → refuses (wrong_length dir row n ∷ value_rules dir row body unfit) ≡ not (has_length dir row n) || unfit
-  value_refuses Answer covers = rw (bool.or_false unfit)
+  value_refuses Answer covers = rw (bool.or-false unfit)
   value_refuses Command covers = ap (◌||◌ (not (has_length Command row n))) (go (lacks_step row body) unfit (λ e. covers (lacks_value row body e)))
     where
       go : (t w : Bool) → (t ≡ true → w ≡ true) → t || (w && not t || false) ≡ w
