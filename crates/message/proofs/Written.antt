@@ -1,6 +1,6 @@
 -- A form of the row has legal data, and they say it.
 use mathlib.Core.Path.{◌≡◌, refl, ap, ◌∙◌}
-use mathlib.Core.Bool.{Bool, true, false, cond, not, ◌||◌, and_false}
+use mathlib.Core.Bool.{Bool, true, false, cond, not, ◌||◌, and-false}
 use Prim.Native.Nat.{ℕ, ◌≤◌}
 use native.Mathlib.Omega.{arith}
 use borrow.Author.Tests.{eqb-true}
@@ -117,7 +117,7 @@ module _ (dir : Direction) (row : Row) where
   -- data of a value that the row lacks are no form of it
   pub no_form : (content : Content) → has_value dir row (encoded_data (encoded_of row content)) ≡ false → not (is_form dir row content) ≡ true
   unfolding is_form
-  no_form content wrong = rw (wrong, and_false (has_length dir row (length (encoded_data (encoded_of row content)))))
+  no_form content wrong = rw (wrong, and-false (has_length dir row (length (encoded_data (encoded_of row content)))))
 
   -- what is said goes by its length and its form
   abbrev pub form_judged : Content → {A : Type 0} → (ℕ → A) → A → A
