@@ -6,9 +6,9 @@ use Rattle.sheet.specs.Check.{lowest_fault}
 use Rattle.sheet.proofs.Faults.{goes_on, stops, ends, first_short}
 use Rattle.sheet_code.proofs.check.lowest.Given as goal
 
-abbrev pub invariant-loop : goal.invariant-loop
-invariant-loop l =
+abbrev pub invariant-loop-i : goal.invariant-loop-i
+invariant-loop-i l =
     (l.i ≤ l.count) × (lowest_fault l.profile [] (take l.count l.lines) ≡ lowest_fault l.profile (take l.i l.lines) (drop l.i (take l.count l.lines)))
 
-abbrev pub decreases-loop : goal.decreases-loop
-decreases-loop l = l.count - l.i
+abbrev pub decreases-loop-i : goal.decreases-loop-i
+decreases-loop-i l = l.count - l.i
