@@ -146,7 +146,7 @@ module _ (profile : Profile) (start want : Settings) where
     all : Each (Reached (after u (frames_of ls))) ls
 
   framed : (ls : List Line) → Each Wanted ls → (u : Unit) → Good u → Within Command 1 u.taken → Framed u ls
-  unfolding in_order Always reader_by
+  unfolding in_order Always reader_by frame_of
   framed [] w u g near = record { always = g; keeps = λ x e. e; all = tt }
   framed (l ∷ ls) w u g near =
       let one = frame_after l w.0 u g near in

@@ -6,9 +6,9 @@ use Rattle.sheetfile.specs.File.{record_size, records, lines_in}
 use Rattle.sheetfile.proofs.Records.{lines_on, lines_end}
 use Rattle.sheetfile_code.proofs.file.lines_in.Given as goal
 
-abbrev pub invariant-loop : goal.invariant-loop
-invariant-loop l =
+abbrev pub invariant-loop-i : goal.invariant-loop-i
+invariant-loop-i l =
     (l.i ≤ l.count) × (with_all l.initial.sheet (lines_in (records l.file)) ≡ with_all l.sheet (lines_in (records (drop (l.i * record_size) l.file))))
 
-abbrev pub decreases-loop : goal.decreases-loop
-decreases-loop l = l.count - l.i
+abbrev pub decreases-loop-i : goal.decreases-loop-i
+decreases-loop-i l = l.count - l.i

@@ -6,9 +6,9 @@ use Rattle.sheetfile.specs.File.{record_size, records, lowest_wrong}
 use Rattle.sheetfile.proofs.Records.{marked_on, marked_not, marked_end}
 use Rattle.sheetfile_code.proofs.file.lowest_wrong.Given as goal
 
-abbrev pub invariant-loop : goal.invariant-loop
-invariant-loop l =
+abbrev pub invariant-loop-i : goal.invariant-loop-i
+invariant-loop-i l =
     (l.i ≤ l.count) × (lowest_wrong l.profile 0 (records l.file) ≡ lowest_wrong l.profile l.i (records (drop (l.i * record_size) l.file)))
 
-abbrev pub decreases-loop : goal.decreases-loop
-decreases-loop l = l.count - l.i
+abbrev pub decreases-loop-i : goal.decreases-loop-i
+decreases-loop-i l = l.count - l.i

@@ -12,9 +12,9 @@ use Rattle.sheetfile.specs.Computed.{bytes_of}
 use Rattle.sheetfile.proofs.Filled.{filled_tail, in_order_more, in_order_length, bytes_six}
 use Rattle.sheetfile_code.proofs.write.put_lines.Given as goal
 
-abbrev pub invariant-loop : goal.invariant-loop
-invariant-loop l =
+abbrev pub invariant-loop-i : goal.invariant-loop-i
+invariant-loop-i l =
     (l.i ≤ l.count) × (length l.tail ≡ length l.initial.tail) × (l.tail ≡ in_order (bytes_of l.form l.profile) (take l.i l.lines) ++ drop (l.i * record_size) l.initial.tail)
 
-abbrev pub decreases-loop : goal.decreases-loop
-decreases-loop l = l.count - l.i
+abbrev pub decreases-loop-i : goal.decreases-loop-i
+decreases-loop-i l = l.count - l.i

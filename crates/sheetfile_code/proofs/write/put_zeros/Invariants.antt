@@ -5,9 +5,9 @@ use lib.ListN.{length, drop, replicate}
 use Rattle.sheetfile.proofs.Filled.{zeros_more}
 use Rattle.sheetfile_code.proofs.write.put_zeros.Given as goal
 
-abbrev pub invariant-loop : goal.invariant-loop
-invariant-loop l =
+abbrev pub invariant-loop-i : goal.invariant-loop-i
+invariant-loop-i l =
     (l.i ≤ l.count) × (length l.tail ≡ length l.initial.tail) × (l.tail ≡ replicate l.i 0 ++ drop l.i l.initial.tail)
 
-abbrev pub decreases-loop : goal.decreases-loop
-decreases-loop l = l.count - l.i
+abbrev pub decreases-loop-i : goal.decreases-loop-i
+decreases-loop-i l = l.count - l.i
