@@ -6,8 +6,8 @@ use Rattle.listing_pieces.specs.Pieces.{line_limit, coming_from}
 use Rattle.listing_pieces.proofs.Pieces.{filled_full, filled_end, fewer, Filling, begun, ended, more}
 use Rattle.listing_code.proofs.piece.list_lines.Given as goal
 
-abbrev pub invariant-loop : goal.invariant-loop
-invariant-loop l = Filling l.profile l.direction l.capture l.initial.buf l.initial.next l.buf l.at l.next
+abbrev pub invariant-loop-buf : goal.invariant-loop-buf
+invariant-loop-buf l = Filling l.profile l.direction l.capture l.initial.buf l.initial.next l.buf l.at l.next
 
-abbrev pub decreases-loop : goal.decreases-loop
-decreases-loop l = length (coming_from l.profile l.direction l.capture l.next)
+abbrev pub decreases-loop-buf : goal.decreases-loop-buf
+decreases-loop-buf l = length (coming_from l.profile l.direction l.capture l.next)

@@ -8,8 +8,8 @@ use Rattle.signing.specs.Sign.{all_hold}
 use Rattle.signing.proofs.Signs.{stops, goes_on, ends}
 use Rattle.signing_code.proofs.sign.all_hold.Given as goal
 
-abbrev pub invariant-loop : goal.invariant-loop
-invariant-loop l = (l.i ≤ l.count) × (all_hold l.tracker (take l.count l.lines) ≡ all_hold l.tracker (drop l.i (take l.count l.lines)))
+abbrev pub invariant-loop-i : goal.invariant-loop-i
+invariant-loop-i l = (l.i ≤ l.count) × (all_hold l.tracker (take l.count l.lines) ≡ all_hold l.tracker (drop l.i (take l.count l.lines)))
 
-abbrev pub decreases-loop : goal.decreases-loop
-decreases-loop l = l.count - l.i
+abbrev pub decreases-loop-i : goal.decreases-loop-i
+decreases-loop-i l = l.count - l.i

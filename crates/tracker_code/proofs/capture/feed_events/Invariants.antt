@@ -12,11 +12,11 @@ use Rattle.tracker.proofs.Captures.{feeds_told, feeds_end}
 use Rattle.tracker.proofs.Tells.{inside_at}
 use Rattle.tracker_code.proofs.capture.feed_events.Given as goal
 
-abbrev pub invariant-loop : goal.invariant-loop
-invariant-loop l =
+abbrev pub invariant-loop-event : goal.invariant-loop-event
+invariant-loop-event l =
     (l.at ≤ length l.capture)
     × (l.next.profile ≡ l.profile)
     × (answers_fed l.initial.next (brought_by l.capture) ≡ answers_fed l.next (in_order (brought_at l.capture) (events_from Answer l.capture l.at)))
 
-abbrev pub decreases-loop : goal.decreases-loop
-decreases-loop l = length l.capture - l.at
+abbrev pub decreases-loop-event : goal.decreases-loop-event
+decreases-loop-event l = length l.capture - l.at
