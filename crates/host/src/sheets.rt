@@ -13,6 +13,7 @@ use sheetfile::write::SheetWritten;
 use sheetfile_code::write::{put_file, put_run};
 
 // A sheet with a list of lines more.
+#[tactic(auto, using(crate::proofs::Folds::fold_start, crate::proofs::Folds::fold_more, crate::proofs::Folds::fold_end))]
 pub fn with_lines(lines: &[Line], from: Sheet) -> Sheet
     ensures { result ≡ with_all from lines.now }
 {
@@ -26,6 +27,7 @@ pub fn with_lines(lines: &[Line], from: Sheet) -> Sheet
 }
 
 // The check of a sheet that comes as a list of lines: 6, then the lowest line at fault.
+#[tactic(auto, using(sheet::proofs::Sheets::verdict_together))]
 pub fn check_sheet(profile: Profile, lines: &[Line]) -> Verdict
     ensures { result ≡ sheet_verdict profile lines.now }
 {
@@ -35,6 +37,7 @@ pub fn check_sheet(profile: Profile, lines: &[Line]) -> Verdict
 }
 
 // Writes its file into the rest of the buffer from a place: the sheet's checks, then 9.
+#[tactic(auto, using(sheetfile::proofs::Together::file_answer, sheetfile::proofs::Together::file_after))]
 pub fn write_sheet_file(profile: Profile, lines: &[Line], buf: &mut [u8], at: usize) -> SheetWritten
     ensures answers { result ≡ file_answered profile lines.now buf.old at }
     ensures leaves { buf.new ≡ file_left profile lines.now buf.old at }
@@ -45,6 +48,7 @@ pub fn write_sheet_file(profile: Profile, lines: &[Line], buf: &mut [u8], at: us
 }
 
 // Writes its run into the rest of the buffer from a place: the sheet's checks, then 9 for the whole run.
+#[tactic(auto, using(sheetfile::proofs::Together::run_answer, sheetfile::proofs::Together::run_after))]
 pub fn write_run(profile: Profile, lines: &[Line], buf: &mut [u8], at: usize) -> SheetWritten
     ensures answers { result ≡ run_answered profile lines.now buf.old at }
     ensures leaves { buf.new ≡ run_left profile lines.now buf.old at }

@@ -57,6 +57,7 @@ pub fn sign_off(tracker: &Tracker, lines: &[Line]) -> Signed
 }
 
 // Signs a sheet off by a capture of answers alone: 11, then the sheet's refusal, then yes or no.
+#[tactic(auto, using(signing::proofs::Together::capture_together))]
 pub fn sign_capture(profile: Profile, lines: &[Line], capture: &[u8]) -> Signed
     ensures { result ≡ capture_signed profile lines.now capture.now }
 {
@@ -66,6 +67,7 @@ pub fn sign_capture(profile: Profile, lines: &[Line], capture: &[u8]) -> Signed
 }
 
 // The same of a tracker by value.
+#[tactic(auto, using(signing::proofs::Together::sign_together))]
 fn sign_lines(tracker: Tracker, lines: &[Line]) -> Signed
     ensures { result ≡ sign_off tracker lines.now }
 {

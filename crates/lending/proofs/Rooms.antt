@@ -9,15 +9,10 @@ use native.Mathlib.Omega.{arith}
 use lib.Dec.{leb, ltb}
 use lib.ListN.{length, get_or, set, take, replicate, length-append, length-map}
 use lib.Seq.{paste, paste-suc, take_all, take-append-le, take-append-add}
-use mir.Val.{Val}
-use denote.Laws.{Is}
-use denote.Struct.Laws as LL
 use borrow.Author.Tests.{le-leb, lt-leb, le-ltb, leb-true, leb-false, ltb-false}
 use Rattle.sheet.specs.Sheet.{sheet_limit, no_line, no_lines, with_line, with_all, lines_of}
 use Rattle.sheet.specs.declared.line.Line.{Line}
 use Rattle.sheet.specs.declared.sheet.Sheet.{Sheet}
-use Rattle.sheet.specs.contracts.sheet.Sheet as S
-use Rattle.sheet.proofs.sheet.Sheet.TheLaws as S'
 use Rattle.sheet.proofs.Faults.{first_short}
 use Rattle.lending.specs.Room.{room_limit, room_of, count_of}
 
@@ -115,12 +110,8 @@ module _ (s : Sheet) (long : length s.lines ≡ sheet_limit) where
           let h : sheet_limit < s.count = leb-false _ _ e in
           ap (with_all no_lines) (all h) ∙ full s.lines no_line [] long ∙ sym (full s.lines no_line (longer h).0 long) ∙ ap (with_all no_lines) (sym (longer h).1)
 
--- a sheet by value keeps as many lines as the limit
-pub sized : (s : Sheet) (vs : List Val) → Is S.the_row s vs → length s.lines ≡ sheet_limit
-sized s vs is = let fields = LL.owed S.the_type S'.the_laws s vs is in sym (length-map s.lines _) ∙ fields.1.0.1.0.1
-
 -- whatever answers for lines brought together answers for what is lent as for the sheet's own list
-pub same : (s : Sheet) (vs : List Val) → Is S.the_row s vs → (room : List Line) (count : ℕ) → room ≡ room_of s → count ≡ count_of s
+pub same : (s : Sheet) → length s.lines ≡ sheet_limit → (room : List Line) (count : ℕ) → room ≡ room_of s → count ≡ count_of s
     → {A : Type 0} (answer : List Line → A) → ((ls : List Line) → answer (lines_of (with_all no_lines ls)) ≡ answer ls) → answer (take count room) ≡ answer (lines_of s)
-same s vs is room count e f answer together =
-    ap answer (λ i. take (f i) (e i)) ∙ sym (together (lent s (sized s vs is))) ∙ ap (λ (t : Sheet). answer (lines_of t)) (brought s (sized s vs is)) ∙ together (lines_of s)
+same s long room count e f answer together =
+    ap answer (λ i. take (f i) (e i)) ∙ sym (together (lent s long)) ∙ ap (λ (t : Sheet). answer (lines_of t)) (brought s long) ∙ together (lines_of s)

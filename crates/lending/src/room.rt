@@ -8,6 +8,7 @@ use sheet::sheet::{SHEET_LIMIT, Sheet};
 pub(crate) const ROOM: usize = SHEET_LIMIT + 1;
 
 // The lines of a sheet, and behind them one of zeros.
+#[tactic(auto, unfolding(crate::specs::Room::room_of))]
 pub(crate) fn room_of(sheet: Sheet) -> [Line; ROOM]
     ensures { result ≡ room_of sheet }
 {
@@ -26,6 +27,7 @@ pub(crate) fn room_of(sheet: Sheet) -> [Line; ROOM]
 }
 
 // How many of them are lent: any longer sheet counts as one line too long.
+#[tactic(auto, unfolding(crate::specs::Room::count_of))]
 pub(crate) fn count_of(sheet: Sheet) -> usize
     ensures { result ≡ count_of sheet }
 {

@@ -1,0 +1,23 @@
+-- The file of what is lent is the sheet's.
+use Rattle.std.proofs.Common.{◌≡◌, ◌∙◌, List, rules, length}
+use Rattle.sheet.specs.Sheet.{sheet_limit}
+use Rattle.sheet.specs.declared.line.Line.{Line}
+use Rattle.sheetfile.specs.Written.{file_answered, file_left}
+use Rattle.sheetfile.proofs.Together.{file_answer, file_after}
+use Rattle.lending.proofs.Rooms.{fits, same}
+use Rattle.lending.proofs.sheets.write_sheet_file_lent.Goals as goal
+
+pub file_part-requires : goal.file_part-requires
+file_part-requires c = fits _ _ c.count_of-count.ensures
+
+pub returns-clause-answers : goal.returns-clause-answers
+returns-clause-answers c =
+    let g = c.args in
+    let long : length g.sheet.lines ≡ sheet_limit = search rules in
+    c.file_part.ensures.answers ∙ same g.sheet long _ _ c.room_of-lines.ensures c.count_of-count.ensures (λ (ls : List Line). file_answered g.profile ls g.buf.now g.at) (λ ls. file_answer g.profile ls g.buf.now g.at)
+
+pub returns-clause-leaves : goal.returns-clause-leaves
+returns-clause-leaves c =
+    let g = c.args in
+    let long : length g.sheet.lines ≡ sheet_limit = search rules in
+    c.file_part.ensures.leaves ∙ same g.sheet long _ _ c.room_of-lines.ensures c.count_of-count.ensures (λ (ls : List Line). file_left g.profile ls g.buf.now g.at) (λ ls. file_after g.profile ls g.buf.now g.at)
