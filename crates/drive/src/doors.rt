@@ -1,7 +1,7 @@
 // Lists of lines and trackers, lent to the doors of `host`.
 use crate::arguments::{argument, byte};
 use crate::messages::say_reading;
-use crate::out::{say, say_byte_after};
+use crate::out::{Output, say, say_byte_after};
 use crate::sheets::{say_refused, say_signed};
 use crate::{names, out};
 use lending::sheets::{check_sheet_lent, write_run_lent, write_sheet_file_lent};
@@ -14,78 +14,91 @@ use sheet::line::Line;
 use sheet::sheet::Sheet;
 use sheet_code::lines::{no_lines, with_line};
 use sheetfile::write::SheetWritten;
+use std::io;
 use tracker::capture::{CaptureAnswer, CaptureFed};
 use tracker::tracker::Kept;
 use tracker_code::known::new_tracker;
 
-pub(crate) fn operate(operation: usize, space: &[u8], ends: [usize; 14]) {
+pub(crate) fn operate(
+    out: &mut Output,
+    operation: usize,
+    space: &[u8],
+    ends: [usize; 14],
+) -> io::Result<()> {
     match profile_of(byte(space, ends, 1)) {
-        NamedProfile::Profile(profile) => { profiled(operation, profile, space, ends) }
-        NamedProfile::Refused(number) => refused(operation, number),
+        NamedProfile::Profile(profile) => { profiled(out, operation, profile, space, ends) }
+        NamedProfile::Refused(number) => refused(out, operation, number),
     }
 }
 
 // A letter that names no profile: those on lists have a place too.
-fn refused(operation: usize, number: u8) {
+fn refused(out: &mut Output, operation: usize, number: u8) -> io::Result<()> {
     if operation < names::DOORCELL {
-        say_refused(number, 0);
-        return;
+        return say_refused(out, number, 0);
     }
-    out::say_refused(number)
+    out::say_refused(out, number)
 }
 
-fn profiled(operation: usize, profile: Profile, space: &[u8], ends: [usize; 14]) {
+fn profiled(
+    out: &mut Output,
+    operation: usize,
+    profile: Profile,
+    space: &[u8],
+    ends: [usize; 14],
+) -> io::Result<()> {
     if operation == names::DOORCELL {
         let fed = feed_capture_lent(new_tracker(profile), argument(space, ends, 2));
-        say_cell(fed, byte(space, ends, 3), byte(space, ends, 4));
-        return;
+        return say_cell(out, fed, byte(space, ends, 3), byte(space, ends, 4));
     }
     if operation == names::DOORFEED {
-        feed(profile, space, ends);
-        return;
+        return feed(out, profile, space, ends);
     }
     let sheet = lines_of(argument(space, ends, 2));
-    listed(operation, profile, sheet, argument(space, ends, 3))
+    listed(out, operation, profile, sheet, argument(space, ends, 3))
 }
 
 // A list of lines, checked, or signed off by a capture.
-fn listed(operation: usize, profile: Profile, sheet: Sheet, capture: &[u8]) {
+fn listed(
+    out: &mut Output,
+    operation: usize,
+    profile: Profile,
+    sheet: Sheet,
+    capture: &[u8],
+) -> io::Result<()> {
     if operation == names::DOORLIST {
-        say_verdict(check_sheet_lent(profile, sheet));
-        return;
+        return say_verdict(out, check_sheet_lent(profile, sheet));
     }
     if operation == names::DOORSIGN {
-        say_signed(sign_capture_lent(profile, sheet, capture));
-        return;
+        return say_signed(out, sign_capture_lent(profile, sheet, capture));
     }
-    sign_off(feed_capture_lent(new_tracker(profile), capture), sheet)
+    sign_off(out, feed_capture_lent(new_tracker(profile), capture), sheet)
 }
 
-fn say_verdict(verdict: Verdict) {
+fn say_verdict(out: &mut Output, verdict: Verdict) -> io::Result<()> {
     match verdict {
-        Verdict::Accepted => say(b"accepted"),
-        Verdict::Refused(number, place) => say_refused(number, place),
+        Verdict::Accepted => say(out, b"accepted"),
+        Verdict::Refused(number, place) => say_refused(out, number, place),
     }
 }
 
-fn sign_off(fed: CaptureFed, sheet: Sheet) {
+fn sign_off(out: &mut Output, fed: CaptureFed, sheet: Sheet) -> io::Result<()> {
     let answer = fed.answer;
     match answer {
-        CaptureAnswer::Fed => say_signed(sign_off_lent(fed.tracker, sheet)),
-        CaptureAnswer::Refused(number) => say_refused(number, 0),
+        CaptureAnswer::Fed => say_signed(out, sign_off_lent(fed.tracker, sheet)),
+        CaptureAnswer::Refused(number) => say_refused(out, number, 0),
     }
 }
 
-fn say_cell(fed: CaptureFed, zone: u8, command: u8) {
+fn say_cell(out: &mut Output, fed: CaptureFed, zone: u8, command: u8) -> io::Result<()> {
     let answer = fed.answer;
     match answer {
-        CaptureAnswer::Fed => say_kept(read_cell_lent(fed.tracker, zone, command)),
-        CaptureAnswer::Refused(number) => out::say_refused(number),
+        CaptureAnswer::Fed => say_kept(out, read_cell_lent(fed.tracker, zone, command)),
+        CaptureAnswer::Refused(number) => out::say_refused(out, number),
     }
 }
 
 // One answer, and what is known of its cell then.
-fn feed(profile: Profile, space: &[u8], ends: [usize; 14]) {
+fn feed(out: &mut Output, profile: Profile, space: &[u8], ends: [usize; 14]) -> io::Result<()> {
     let zone = byte(space, ends, 2);
     let command = byte(space, ends, 3);
     let body = argument(space, ends, 5);
@@ -97,19 +110,19 @@ fn feed(profile: Profile, space: &[u8], ends: [usize; 14]) {
         body,
     );
     let reading = fed.reading;
-    say_reading(reading, body);
-    say(b" ; ");
-    say_kept(read_cell_lent(fed.tracker, zone, command))
+    say_reading(out, reading, body)?;
+    say(out, b" ; ")?;
+    say_kept(out, read_cell_lent(fed.tracker, zone, command))
 }
 
-fn say_kept(kept: Kept) {
+fn say_kept(out: &mut Output, kept: Kept) -> io::Result<()> {
     match kept {
         Kept::Value(value) => {
-            say(b"value");
-            say_byte_after(value)
+            say(out, b"value")?;
+            say_byte_after(out, value)
         }
-        Kept::Unknown => say(b"unknown"),
-        Kept::NoCell => say(b"no cell"),
+        Kept::Unknown => say(out, b"unknown"),
+        Kept::NoCell => say(out, b"no cell"),
     }
 }
 

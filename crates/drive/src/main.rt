@@ -1,5 +1,7 @@
 // Runs the library's public functions on operations from standard input and prints what they answer; the form of the
 // operations is in tests/README.md.
+#![tactic(auto)]
+
 mod arguments;
 mod doors;
 mod frames;
@@ -11,84 +13,111 @@ mod spaces;
 mod texts;
 mod writes;
 
+use out::Output;
+use std::io;
+use std::io::{BufWriter, Read, Stdin, Write};
+
 // Room for a line; of a longer one the first characters are taken.
 const LINE: usize = 262144;
 // Reads of 65,536 bytes, more than any input has.
 const READS: u32 = 4294967295;
+// Room for what one of them reads.
+const READ: usize = 65536;
 
-fn main() {
+fn main(rt: HostRuntime) -> io::Result<()> {
+    let mut out = BufWriter::new(rt.alloc(), rt.stdout())?;
     let mut line = [0u8; LINE];
-    read_lines(&mut line);
+    read_lines(&mut out, rt.stdin(), &mut line)?;
+    out.flush()
 }
 
 // Reads until the input ends; a last line may have no line feed.
-fn read_lines(line: &mut [u8]) {
-    let mut input = io::large_buffer();
+fn read_lines(out: &mut Output, from: Stdin, line: &mut [u8]) -> io::Result<()> {
+    let mut input = [0u8; READ];
     let mut count = 0;
     for read in 0..READS {
-        let got = io::read_full(0, &mut input);
+        let got = read_full(from, &mut input)?;
         if got == 0 {
             break;
         }
-        count = take_bytes(lent::part::bytes_at(&input, 0, got), line, count);
+        count = take_bytes(out, lent::part::bytes_at(&input, 0, got), line, count)?;
     }
     if count > 0 {
-        operate(line, count);
+        operate(out, line, count)?;
     }
+    Ok(())
+}
+
+// Reads until the buffer is full or the input ends, and answers how many bytes were read.
+fn read_full(mut from: Stdin, buffer: &mut [u8]) -> io::Result<usize> {
+    let mut at = 0;
+    while at < buffer.len() {
+        let got = from.read(&mut buffer[at..])?;
+        if got == 0 {
+            return Ok(at);
+        }
+        at += got;
+    }
+    Ok(at)
 }
 
 // How many characters the line then has.
-fn take_bytes(bytes: &[u8], line: &mut [u8], count: usize) -> usize {
+fn take_bytes(out: &mut Output, bytes: &[u8], line: &mut [u8], count: usize) -> io::Result<usize> {
     let mut characters = count;
     for i in 0..bytes.len() {
-        characters = take_byte(bytes[i], line, characters);
+        characters = take_byte(out, bytes[i], line, characters)?;
     }
-    characters
+    Ok(characters)
 }
 
 // One byte more, where there is room; a line feed ends the line.
-fn take_byte(byte: u8, line: &mut [u8], count: usize) -> usize {
+fn take_byte(out: &mut Output, byte: u8, line: &mut [u8], count: usize) -> io::Result<usize> {
     if byte == b'\n' {
-        operate(line, count);
-        return 0;
+        operate(out, line, count)?;
+        return Ok(0);
     }
     if count >= line.len() {
-        return count;
+        return Ok(count);
     }
     line[count] = byte;
-    count + 1
+    Ok(count + 1)
 }
 
 // One operation; a line that begins with # is none.
-fn operate(line: &mut [u8], count: usize) {
+fn operate(out: &mut Output, line: &mut [u8], count: usize) -> io::Result<()> {
     if count > 0 {
         if arguments::letter(line, 0) == b'#' {
-            return;
+            return Ok(());
         }
     }
     let word = arguments::word(line, count);
     let taken = arguments::decoded(line, count);
     let ends = taken.ends;
-    run(names::operation(word), line, ends, taken.count)
+    run(out, names::operation(word), line, ends, taken.count)
 }
 
 // Runs an operation by its group, and ends its line; a listing ends its last line itself.
-fn run(operation: usize, space: &[u8], ends: [usize; 14], count: usize) {
+fn run(
+    out: &mut Output,
+    operation: usize,
+    space: &[u8],
+    ends: [usize; 14],
+    count: usize,
+) -> io::Result<()> {
     if operation < names::READS {
-        frames::operate(operation, space, ends, count);
+        frames::operate(out, operation, space, ends, count)?;
     } else if operation < names::SHEETS {
-        messages::operate(operation, space, ends);
+        messages::operate(out, operation, space, ends)?;
     } else if operation < names::DOORS {
-        sheets::operate(operation, space, ends);
+        sheets::operate(out, operation, space, ends)?;
     } else if operation < names::WRITES {
-        doors::operate(operation, space, ends);
+        doors::operate(out, operation, space, ends)?;
     } else if operation < names::LISTS {
-        writes::operate(operation, space, ends);
+        writes::operate(out, operation, space, ends)?;
     } else if operation < names::UNKNOWN {
-        texts::operate(operation, space, ends);
-        return;
+        return texts::operate(out, operation, space, ends);
     } else {
-        out::say_letter(b'?');
+        out::say_letter(out, b'?')?;
     }
-    out::say_letter(b'\n')
+    out::say_letter(out, b'\n')
 }

@@ -3,96 +3,100 @@ use characters::hex::hex_digit;
 use decimal::decimal::write_integer;
 use lent::part::bytes_at;
 use lent::written::Written;
+use std::io;
+use std::io::{BufWriter, Stdout, Write};
 
-const OUT: i32 = 1;
+// Standard output behind a buffer, which is written out where it is full and at the end.
+pub(crate) type Output = BufWriter<Stdout>;
 
-pub(crate) fn say(part: &[u8]) {
-    io::write_all(OUT, part);
+pub(crate) fn say(out: &mut Output, part: &[u8]) -> io::Result<()> {
+    out.write_all(part)
 }
 
-pub(crate) fn say_number(number: u64) {
-    io::print_decimal(OUT, number);
+pub(crate) fn say_number(out: &mut Output, number: u64) -> io::Result<()> {
+    write!(out, "{number}")
 }
 
-pub(crate) fn say_letter(letter: u8) {
-    io::write_all(OUT, &[letter]);
+pub(crate) fn say_letter(out: &mut Output, letter: u8) -> io::Result<()> {
+    out.write_all(&[letter])
 }
 
 // A letter, and a number behind it.
-pub(crate) fn say_after(letter: u8, number: u64) {
-    io::write_all(OUT, &[letter]);
-    io::print_decimal(OUT, number);
+pub(crate) fn say_after(out: &mut Output, letter: u8, number: u64) -> io::Result<()> {
+    out.write_all(&[letter])?;
+    write!(out, "{number}")
 }
 
-pub(crate) fn say_refused(number: u8) {
-    io::write_all(OUT, b"refused ");
-    io::print_decimal(OUT, number as u64);
+pub(crate) fn say_refused(out: &mut Output, number: u8) -> io::Result<()> {
+    write!(out, "refused {number}")
 }
 
 // A space, and a byte as hex digits.
-pub(crate) fn say_byte_after(byte: u8) {
-    io::write_all(OUT, &[b' ', hex_digit(byte / 16), hex_digit(byte % 16)]);
+pub(crate) fn say_byte_after(out: &mut Output, byte: u8) -> io::Result<()> {
+    out.write_all(&[b' ', hex_digit(byte / 16), hex_digit(byte % 16)])
 }
 
 // Bytes behind all else that is said.
-pub(crate) fn say_buffer(bytes: &[u8]) {
-    io::write_all(OUT, b" : ");
-    say_bytes(bytes)
+pub(crate) fn say_buffer(out: &mut Output, bytes: &[u8]) -> io::Result<()> {
+    out.write_all(b" : ")?;
+    say_bytes(out, bytes)
 }
 
 // A word, and a number behind it.
-pub(crate) fn say_counted(word: &[u8], number: u64) {
-    io::write_all(OUT, word);
-    io::print_decimal(OUT, number);
+pub(crate) fn say_counted(out: &mut Output, word: &[u8], number: u64) -> io::Result<()> {
+    out.write_all(word)?;
+    write!(out, "{number}")
 }
 
-pub(crate) fn say_byte(byte: u8) {
-    io::write_all(OUT, &[hex_digit(byte / 16), hex_digit(byte % 16)]);
+pub(crate) fn say_byte(out: &mut Output, byte: u8) -> io::Result<()> {
+    out.write_all(&[hex_digit(byte / 16), hex_digit(byte % 16)])
 }
 
 // A number that may be below zero: five digits at most, and a sign.
-pub(crate) fn say_integer(number: i16) {
+pub(crate) fn say_integer(out: &mut Output, number: i16) -> io::Result<()> {
     let mut digits = [0u8; 6];
     let written = write_integer(&mut digits, 0, number as i32);
     let Written::Bytes(count) = written else {
-        return;
+        return Ok(());
     };
-    io::write_all(OUT, bytes_at(&digits, 0, count));
+    out.write_all(bytes_at(&digits, 0, count))
 }
 
+// Room for the digits that are gathered.
+const GATHERED: usize = 4096;
+
 // Bytes as hex digits, run together; a dash for none.
-pub(crate) fn say_bytes(bytes: &[u8]) {
+pub(crate) fn say_bytes(out: &mut Output, bytes: &[u8]) -> io::Result<()> {
     if bytes.len() == 0 {
-        say_letter(b'-');
-        return;
+        return say_letter(out, b'-');
     }
-    let mut gathered = io::buffer();
-    gather(bytes, &mut gathered);
+    let mut gathered = [0u8; GATHERED];
+    gather(out, bytes, &mut gathered)
 }
 
 // Gathers the digits in a lent buffer, and writes it out whenever it is full.
-fn gather(bytes: &[u8], gathered: &mut [u8]) {
+fn gather(out: &mut Output, bytes: &[u8], gathered: &mut [u8]) -> io::Result<()> {
     let mut at = 0;
     for i in 0..bytes.len() {
-        at = put_pair(gathered, at, bytes[i]);
+        at = put_pair(out, gathered, at, bytes[i])?;
     }
-    say(bytes_at(gathered, 0, at));
+    say(out, bytes_at(gathered, 0, at))
 }
 
-fn put_pair(gathered: &mut [u8], at: usize, byte: u8) -> usize {
-    let start = with_room(gathered, at);
+fn put_pair(out: &mut Output, gathered: &mut [u8], at: usize, byte: u8) -> io::Result<usize> {
+    let start = with_room(out, gathered, at)?;
     let second = put_byte(gathered, start, hex_digit(byte / 16));
-    put_byte(gathered, second, hex_digit(byte % 16))
+    Ok(put_byte(gathered, second, hex_digit(byte % 16)))
 }
 
-fn with_room(gathered: &[u8], at: usize) -> usize {
+fn with_room(out: &mut Output, gathered: &[u8], at: usize) -> io::Result<usize> {
     if at <= gathered.len() {
         if 2 <= gathered.len() - at {
-            return at;
+            return Ok(at);
         }
     }
-    say(bytes_at(gathered, 0, at));
-    0
+    say(out, bytes_at(gathered, 0, at))?;
+    Ok(0)
 }
 
 // One byte more, where there is room.

@@ -1,6 +1,7 @@
 // Operations that write into a buffer of a given length, all AA before.
 use crate::arguments::{argument, byte, number};
 use crate::messages::{content, say_written, signed};
+use crate::out::Output;
 use crate::{doors, names, sheets};
 use fields::raw::write_raw;
 use frame::direction::{Direction, NamedDirection};
@@ -9,51 +10,58 @@ use message::read::{Denial, Message, Said};
 use message_write::write::{write_fields, write_message};
 use row::profile::{NamedProfile, Profile};
 use sheetfile::write::SheetWritten;
+use std::io;
 
-pub(crate) fn operate(operation: usize, space: &[u8], ends: [usize; 14]) {
+pub(crate) fn operate(
+    out: &mut Output,
+    operation: usize,
+    space: &[u8],
+    ends: [usize; 14],
+) -> io::Result<()> {
     let mut room = [0xAAu8; 4096];
     let place = length_place(operation);
     let length = shorter(number(space, ends, place));
     let spot = number(space, ends, std::num::wrapping_add_usize(place, 1)) as usize;
     if is_sheet(operation) {
-        sheet_written(operation, space, ends, &mut room, length, spot);
-        return;
+        return sheet_written(out, operation, space, ends, &mut room, length, spot);
     }
-    written(operation, space, ends, &mut room, length, spot)
+    written(out, operation, space, ends, &mut room, length, spot)
 }
 
 // Writes into the last bytes of the room, and says them.
 fn written(
+    out: &mut Output,
     operation: usize,
     space: &[u8],
     ends: [usize; 14],
     room: &mut [u8],
     length: usize,
     spot: usize,
-) {
+) -> io::Result<()> {
     if length > room.len() {
-        return;
+        return Ok(());
     }
     let skip = room.len() - length;
     let written = write(operation, space, ends, &mut room[skip..], spot);
-    say_written(written, lent::part::last_bytes(room, length))
+    say_written(out, written, lent::part::last_bytes(room, length))
 }
 
 // The same of a sheet file.
 fn sheet_written(
+    out: &mut Output,
     operation: usize,
     space: &[u8],
     ends: [usize; 14],
     room: &mut [u8],
     length: usize,
     spot: usize,
-) {
+) -> io::Result<()> {
     if length > room.len() {
-        return;
+        return Ok(());
     }
     let skip = room.len() - length;
     let written = write_sheet(operation, space, ends, &mut room[skip..], spot);
-    sheets::say_written(written, lent::part::last_bytes(room, length))
+    sheets::say_written(out, written, lent::part::last_bytes(room, length))
 }
 
 // A length of at most the room's.

@@ -1,30 +1,49 @@
 // The listing program: reads a profile letter, a direction letter and a capture on standard input, and writes the
 // capture's listing on standard output.
+#![tactic(auto)]
+
 use listing_code::piece::list_piece;
 use listing_pieces::piece::{Piece, Place};
+use std::io;
+use std::io::{Read, Stdin, Stdout};
 
 // Two letters, a capture of 60,000 bytes, and one more that shows that there is too much.
 const INPUT: usize = 60003;
+// Room for a piece.
+const PIECE: usize = 65536;
 
-fn main() {
+fn main(rt: HostRuntime) -> io::Result<()> {
     let mut buffer = [0u8; INPUT];
-    let count = io::read_full(0, &mut buffer);
-    list(&buffer[..count]);
+    let count = read_full(rt.stdin(), &mut buffer)?;
+    list(rt.stdout(), lent::part::bytes_at(&buffer, 0, count))
+}
+
+// Reads until the buffer is full or the input ends, and answers how many bytes were read.
+fn read_full(mut from: Stdin, buffer: &mut [u8]) -> io::Result<usize> {
+    let mut at = 0;
+    while at < buffer.len() {
+        let got = from.read(&mut buffer[at..])?;
+        if got == 0 {
+            return Ok(at);
+        }
+        at += got;
+    }
+    Ok(at)
 }
 
 // Piece after piece, until one has no bytes.
-fn list(input: &[u8]) {
-    let mut piece = io::large_buffer();
+fn list(out: Stdout, input: &[u8]) -> io::Result<()> {
+    let mut piece = [0u8; PIECE];
     let mut place = Place::Start;
     loop {
         let answer = list_piece(input, place, &mut piece);
         let Piece::Text(count, next) = answer else {
-            return;
+            return Ok(());
         };
         if count == 0 {
-            return;
+            return Ok(());
         }
-        io::write_all(1, lent::part::bytes_at(&piece, 0, count));
+        out.write_all(lent::part::bytes_at(&piece, 0, count))?;
         place = next;
     }
 }
