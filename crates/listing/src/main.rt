@@ -2,6 +2,8 @@
 // capture's listing on standard output.
 #![tactic(auto)]
 
+ghost use Rattle.std.specs.Prelude.{◌≤◌, length, IfOk};
+
 use listing_code::piece::list_piece;
 use listing_pieces::piece::{Piece, Place};
 use std::io;
@@ -15,11 +17,13 @@ const PIECE: usize = 65536;
 fn main(rt: HostRuntime) -> io::Result<()> {
     let mut buffer = [0u8; INPUT];
     let count = read_full(rt.stdin(), &mut buffer)?;
-    list(rt.stdout(), lent::part::bytes_at(&buffer, 0, count))
+    list(rt.stdout(), &buffer[..count])
 }
 
 // Reads until the buffer is full or the input ends, and answers how many bytes were read.
-fn read_full(mut from: Stdin, buffer: &mut [u8]) -> io::Result<usize> {
+fn read_full(mut from: Stdin, buffer: &mut [u8]) -> io::Result<usize>
+    ensures { IfOk result (λ count. count ≤ length buffer.new) }
+{
     let mut at = 0;
     while at < buffer.len() {
         let got = from.read(&mut buffer[at..])?;
