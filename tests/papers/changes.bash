@@ -12,7 +12,7 @@ told $? "docs/SENTENCES.md goes through other requests than ${landed[*]}"
 while read -r request; do
     [[ " ${landed[*]} " == *" $request "* ]]
     told $? "$request is named, and docs/changes/ has no page for it"
-done < <(grep -rhowE 'C-[0-9]+' README.md docs/*.md .ci bench crates crates.txt samples second/README.md second/src tests tools | sort -u)
+done < <(grep -rhowE --exclude-dir=out 'C-[0-9]+' README.md docs/*.md .ci bench crates crates.txt samples second/README.md second/src tests tools | sort -u)
 
 parts='Expected Moved Stayed Gone Edits Times Decided'
 part() { awk -v head="## $2" '/^## / { on = $0 == head; next } on' "docs/changes/$1.md"; } # REQUEST PART

@@ -56,7 +56,7 @@ stands() {
             defines crates.txt "$1" && return
             while IFS= read -r each; do
                 defines "$each" "$1" && return
-            done < <(grep -rlwF --include='*.rt' --include='*.antt' -- "$1" crates)
+            done < <(grep -rlwF --exclude-dir=out --include='*.rt' --include='*.antt' -- "$1" crates)
             return 1
             ;;
     esac

@@ -118,10 +118,10 @@ function trial(text, name, parts, count, i, at, profile, cell, given) {
 { line = plain($0) }
 
 # the settings that the second program's trials begin at
-/^zeroSettings / {
-    if (line != "zeroSettings (value zone command) = 00" && line != "zeroSettings (input i) = 00" && line != "zeroSettings current = 01")
+/^zero_settings / {
+    if (line != "zero_settings (value zone command) = 00" && line != "zero_settings (input i) = 00" && line != "zero_settings current = 01")
         wrong("a trial begins at other settings")
-    zeroSettings++
+    zero_settings++
     next
 }
 
@@ -155,5 +155,5 @@ inside {
 END {
     if (bad) exit 1
     if (!ended) wrong("the table has no end")
-    if (zeroSettings != 3) wrong("the settings that a trial begins at are not found")
+    if (zero_settings != 3) wrong("the settings that a trial begins at are not found")
 }
