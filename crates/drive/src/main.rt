@@ -48,15 +48,16 @@ fn read_lines(out: &mut Output, from: Stdin, line: &mut [u8]) -> io::Result<()> 
     Ok(())
 }
 
-// Reads until the buffer is full or the input ends, and answers how many bytes were read.
+// Reads until the buffer is full or the input ends, and answers how many bytes were read. A read that fails ends it too:
+// its error is answered where nothing was read before it.
 fn read_full(mut from: Stdin, buffer: &mut [u8]) -> io::Result<usize> {
     let mut at = 0;
     while at < buffer.len() {
-        let got = from.read(&mut buffer[at..])?;
-        if got == 0 {
-            return Ok(at);
+        match from.read(&mut buffer[at..]) {
+            Ok(0) => return Ok(at),
+            Ok(got) => at += got,
+            Err(error) => return if at == 0 { Err(error) } else { Ok(at) },
         }
-        at += got;
     }
     Ok(at)
 }

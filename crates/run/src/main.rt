@@ -60,7 +60,7 @@ fn say_refused(err: Stderr, number: u8, place: usize) -> io::Result<()> {
     err.write_all(b"\n")
 }
 
-// How many arguments there are, the program's name the first; of more than the program has, one too many.
+// How many arguments there are, the program's name the first; 4 stands for more than 3.
 fn arg_count(rt: &impl Env) -> usize {
     for i in 0..4 {
         if let Err(FillError::NotPresent) = rt.arg(i, &mut []) {

@@ -181,7 +181,7 @@ fn say_hex(out: Stdout, byte: u8) -> io::Result<()> {
     out.write_all(&[hex_digit(byte / 16), hex_digit(byte % 16)])
 }
 
-// How many arguments there are, the program's name the first; of more than the program has, one too many.
+// How many arguments there are, the program's name the first; 5 stands for more than 4.
 fn arg_count(rt: &impl Env) -> usize {
     for i in 0..5 {
         if let Err(FillError::NotPresent) = rt.arg(i, &mut []) {
