@@ -15,7 +15,7 @@ mod writes;
 
 use out::Output;
 use std::io;
-use std::io::{BufWriter, Read, Stdin, Write};
+use std::io::{Read, Stdin};
 
 // Room for a line; of a longer one the first characters are taken.
 const LINE: usize = 262144;
@@ -25,10 +25,9 @@ const READS: u32 = 4294967295;
 const READ: usize = 65536;
 
 fn main(rt: HostRuntime) -> io::Result<()> {
-    let mut out = BufWriter::new(rt.alloc(), rt.stdout())?;
+    let mut out = rt.stdout();
     let mut line = [0u8; LINE];
-    read_lines(&mut out, rt.stdin(), &mut line)?;
-    out.flush()
+    read_lines(&mut out, rt.stdin(), &mut line)
 }
 
 // Reads until the input ends; a last line may have no line feed.

@@ -4,10 +4,10 @@ use decimal::decimal::write_integer;
 use lent::part::bytes_at;
 use lent::written::Written;
 use std::io;
-use std::io::{BufWriter, Stdout, Write};
+use std::io::{Stdout, Write};
 
-// Standard output behind a buffer, which is written out where it is full and at the end.
-pub(crate) type Output = BufWriter<Stdout>;
+// Where it is printed: each part is written at once.
+pub(crate) type Output = Stdout;
 
 pub(crate) fn say(out: &mut Output, part: &[u8]) -> io::Result<()> {
     out.write_all(part)

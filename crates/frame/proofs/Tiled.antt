@@ -15,7 +15,7 @@ use Rattle.frame.specs.Computed.{stretch_at}
 use Rattle.frame.specs.declared.direction.Direction.{Direction}
 use Rattle.frame.specs.declared.reader.ByteAnswer.{ByteAnswer}
 use Rattle.frame.specs.declared.reader.ByteAnswer.TheVariants as answer
-use Rattle.frame.specs.declared.capture.Kind.TheVariants.{Frame, Broken, Noise}
+use Rattle.frame.specs.declared.capture.Kind.TheVariants.{Frame, Broken}
 use Rattle.frame.specs.declared.capture.Event.{Event}
 use Rattle.frame.proofs.Labels.{count_all}
 use Rattle.frame.proofs.Taken.{taken_outside, taken_inside, taken_end}

@@ -12,7 +12,7 @@ use lib.ListN.{length}
 use Rattle.frame.specs.declared.direction.Direction.{Direction}
 use Rattle.frame.specs.declared.direction.Direction.TheVariants.{Command, Answer}
 use Rattle.frame.proofs.Cases.{cases}
-use Rattle.row.specs.MinusZero.{is_minus_zero, normal}
+use Rattle.row.specs.MinusZero.{normal}
 use Rattle.row.specs.Signed.{number_of}
 use Rattle.row.specs.declared.signed.Coded.{Coded}
 use Rattle.row.specs.declared.table.Row.{Row}

@@ -1,7 +1,7 @@
 -- What a sheet may say, computed over the table: 80 nowhere, and in A 45 the forty steps and 0.
 use mathlib.Core.Path.{◌≡◌, refl, ap, ◌∙◌, subst}
 use mathlib.Core.Bool.{Bool, true, false, cond, not}
-use Prim.Native.Nat.{ℕ, ◌<◌}
+use Prim.Native.Nat.{ℕ}
 use Rattle.lists.specs.Each.{Each}
 use Rattle.lists.proofs.Each.{each_same}
 use Rattle.lists.proofs.Tests.{upto, upto_at}

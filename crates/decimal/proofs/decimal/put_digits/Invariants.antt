@@ -1,11 +1,8 @@
-use mathlib.Core.Path.{◌≡◌, refl, sym, ap, ◌∙◌}
-use mathlib.Core.List.{List, [], ◌∷◌, ◌++◌, append-nil}
-use Prim.Native.Nat.{ℕ, suc, ◌+◌, ◌-◌, ◌%◌, ◌≤◌, ◌<◌}
-use native.Mathlib.Omega.{arith}
-use lib.ListN.{length, take, drop, length-set, take-append-drop}
-use Rattle.characters.specs.Decimal.{digit}
+use mathlib.Core.Path.{◌≡◌}
+use mathlib.Core.List.{List, ◌++◌}
+use Prim.Native.Nat.{ℕ, ◌+◌, ◌≤◌}
+use lib.ListN.{length, take, drop}
 use Rattle.characters.specs.Computed.{last_digits}
-use Rattle.characters.proofs.Digits.{digits_count, digit_before, set_before}
 use Rattle.decimal.proofs.decimal.put_digits.Given as goal
 
 abbrev pub invariant-loop-i : goal.invariant-loop-i

@@ -1,9 +1,7 @@
-use mathlib.Core.Path.{◌≡◌, sym, ◌∙◌}
+use mathlib.Core.Path.{◌≡◌}
 use Prim.Native.Nat.{◌+◌, ◌-◌, ◌≤◌}
-use native.Mathlib.Nat.{zero-add}
-use native.Mathlib.Omega.{arith}
-use lib.ListN.{length, drop, get_or}
-use Rattle.frame.proofs.Parts.{part_from, part_more, part_end, part_adds, held, held_more}
+use lib.ListN.{length, drop}
+use Rattle.frame.proofs.Parts.{part_from, held}
 use Rattle.frame.proofs.part.take_part.Given as goal
 
 abbrev pub invariant-loop-i : goal.invariant-loop-i

@@ -1,11 +1,11 @@
 -- After each turn the totals, with the noise that was passed over, are those of the events up to the place.
-use Rattle.std.proofs.Common.{◌≡◌, ◌∙◌, ap, sym, ℕ, ◌+◌, ◌≤◌, arith}
+use Rattle.std.proofs.Common.{◌≡◌, ◌∙◌, ap, sym, ℕ, ◌+◌, arith}
 use Rattle.frame.specs.Capture.{events_from}
 use Rattle.frame.specs.Computed.{with_event}
 use Rattle.frame.specs.declared.direction.Direction.{Direction}
 use Rattle.frame.specs.declared.capture.Event.{Event}
 use Rattle.frame.specs.declared.capture.Totals.{Totals}
-use Rattle.frame.proofs.Header.{header_most, header_least}
+use Rattle.frame.proofs.Header.{header_least}
 use Rattle.frame.proofs.Events.{Within, stretch_within}
 use Rattle.frame.proofs.Totals.{totals_from, totals_more, sum, sum_more, noisy, noisy_event, noise_here}
 use Rattle.frame_capture.proofs.capture.count_events.Goals as goal

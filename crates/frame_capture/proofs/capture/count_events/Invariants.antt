@@ -1,16 +1,10 @@
-use mathlib.Core.Path.{◌≡◌, refl, ap, sym, ◌∙◌}
-use Prim.Native.Nat.{ℕ, ◌+◌, ◌-◌, ◌≤◌}
-use native.Mathlib.Omega.{arith}
+use mathlib.Core.Path.{◌≡◌}
+use Prim.Native.Nat.{ℕ, ◌-◌, ◌≤◌}
 use lib.ListN.{length}
 use Rattle.frame.specs.Frame
 use Rattle.frame.specs.Capture.{events_from}
-use Rattle.frame.specs.Computed.{with_event}
 use Rattle.frame.specs.declared.direction.Direction.{Direction}
-use Rattle.frame.specs.declared.capture.Event.{Event}
-use Rattle.frame.specs.declared.capture.Totals.{Totals}
-use Rattle.frame.proofs.Header.{header_most, header_least}
-use Rattle.frame.proofs.Events.{Within, stretch_within}
-use Rattle.frame.proofs.Totals.{totals_from, totals_more, totals_end, totals_whole, sum, sum_more, noisy, noisy_event, noisy_all, noise_here}
+use Rattle.frame.proofs.Totals.{totals_from, sum, noisy}
 use Rattle.frame_capture.proofs.capture.count_events.Given as goal
 
 abbrev pub invariant-loop-at : goal.invariant-loop-at

@@ -1,5 +1,5 @@
 -- A copy: after i turns the first i bytes stand at their place.
-use Rattle.std.proofs.Common.{arith, add-one, length}
+use Rattle.std.proofs.Common.{arith, add-one}
 use Rattle.std.proofs.Math.ListN.{length-set}
 use Rattle.std.proofs.Math.Seq.{paste-suc}
 use Rattle.lent.proofs.written.copy_at.Goals as goal

@@ -1,6 +1,6 @@
 -- Below zero the code is what 0x80 less the number is, which fits an `i16` and a byte.
 use mir.Facts.{to_z-of_z}
-use Rattle.row.proofs.Ranges.{Codes, minus}
+use Rattle.row.proofs.Ranges.{minus}
 use Rattle.row.proofs.signed.code_of.Goals as goal
 
 pub returns-then-number-lt0 : goal.returns-then-number-lt0

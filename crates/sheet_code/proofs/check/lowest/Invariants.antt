@@ -1,9 +1,8 @@
-use mathlib.Core.Path.{◌≡◌, sym, ap, ◌∙◌}
+use mathlib.Core.Path.{◌≡◌}
 use mathlib.Core.List.{[]}
 use Prim.Native.Nat.{◌-◌, ◌≤◌}
-use lib.ListN.{length, take, drop}
+use lib.ListN.{take, drop}
 use Rattle.sheet.specs.Check.{lowest_fault}
-use Rattle.sheet.proofs.Faults.{goes_on, stops, ends, first_short}
 use Rattle.sheet_code.proofs.check.lowest.Given as goal
 
 abbrev pub invariant-loop-i : goal.invariant-loop-i

@@ -1,8 +1,7 @@
-use mathlib.Core.Path.{◌≡◌, sym, ◌∙◌}
+use mathlib.Core.Path.{◌≡◌}
 use Prim.Native.Nat.{◌-◌, ◌≤◌}
 use lib.ListN.{take, drop}
 use Rattle.sheet.specs.Line.{is_repeated}
-use Rattle.sheet.proofs.Repeats.{hit, miss, passed}
 use Rattle.sheet_code.proofs.check.repeats.Given as goal
 
 abbrev pub invariant-loop-i : goal.invariant-loop-i

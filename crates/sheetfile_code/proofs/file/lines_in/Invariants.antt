@@ -1,9 +1,8 @@
-use mathlib.Core.Path.{◌≡◌, sym, ◌∙◌}
+use mathlib.Core.Path.{◌≡◌}
 use Prim.Native.Nat.{◌-◌, ◌*◌, ◌≤◌}
 use lib.ListN.{drop}
 use Rattle.sheet.specs.Sheet.{with_all}
 use Rattle.sheetfile.specs.File.{record_size, records, lines_in}
-use Rattle.sheetfile.proofs.Records.{lines_on, lines_end}
 use Rattle.sheetfile_code.proofs.file.lines_in.Given as goal
 
 abbrev pub invariant-loop-i : goal.invariant-loop-i

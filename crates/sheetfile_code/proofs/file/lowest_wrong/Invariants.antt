@@ -1,9 +1,7 @@
-use mathlib.Core.Path.{◌≡◌, sym, ◌∙◌}
+use mathlib.Core.Path.{◌≡◌}
 use Prim.Native.Nat.{◌-◌, ◌*◌, ◌≤◌}
-use borrow.Author.Tests.{not-true, not-false}
 use lib.ListN.{drop}
 use Rattle.sheetfile.specs.File.{record_size, records, lowest_wrong}
-use Rattle.sheetfile.proofs.Records.{marked_on, marked_not, marked_end}
 use Rattle.sheetfile_code.proofs.file.lowest_wrong.Given as goal
 
 abbrev pub invariant-loop-i : goal.invariant-loop-i

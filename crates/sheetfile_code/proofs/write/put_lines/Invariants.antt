@@ -1,15 +1,10 @@
-use mathlib.Core.Path.{◌≡◌, refl, sym, ap, ◌∙◌}
-use mathlib.Core.List.{List, ◌++◌}
-use native.Mathlib.Omega.{arith}
-use borrow.Rule.Slice.PartMut.{same_len_mid}
-use Prim.Native.Nat.{ℕ, ◌+◌, ◌-◌, ◌*◌, ◌≤◌}
-use lib.ListN.{length, take, drop, get_or}
-use lib.Seq.{length-take-le}
-use Rattle.sheet.specs.Sheet.{no_line}
+use mathlib.Core.Path.{◌≡◌}
+use mathlib.Core.List.{◌++◌}
+use Prim.Native.Nat.{◌-◌, ◌*◌, ◌≤◌}
+use lib.ListN.{length, take, drop}
 use Rattle.lists.specs.InOrder.{in_order}
 use Rattle.sheetfile.specs.File.{record_size}
 use Rattle.sheetfile.specs.Computed.{bytes_of}
-use Rattle.sheetfile.proofs.Filled.{filled_tail, in_order_more, in_order_length, bytes_six}
 use Rattle.sheetfile_code.proofs.write.put_lines.Given as goal
 
 abbrev pub invariant-loop-i : goal.invariant-loop-i

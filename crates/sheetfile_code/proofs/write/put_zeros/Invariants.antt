@@ -1,8 +1,7 @@
-use mathlib.Core.Path.{◌≡◌, ◌∙◌}
+use mathlib.Core.Path.{◌≡◌}
 use mathlib.Core.List.{◌++◌}
 use Prim.Native.Nat.{◌-◌, ◌≤◌}
 use lib.ListN.{length, drop, replicate}
-use Rattle.sheetfile.proofs.Filled.{zeros_more}
 use Rattle.sheetfile_code.proofs.write.put_zeros.Given as goal
 
 abbrev pub invariant-loop-i : goal.invariant-loop-i
