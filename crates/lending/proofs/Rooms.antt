@@ -7,7 +7,7 @@ use native.Mathlib.Nat.{zero-add}
 use native.Mathlib.Numerals.{add-one}
 use native.Mathlib.Omega.{arith}
 use lib.Dec.{leb, ltb}
-use lib.ListN.{length, get_or, set, take, replicate, length-append, length-map}
+use lib.ListN.{length, get_or, set, take, replicate, length-append}
 use lib.Seq.{paste, paste-suc, take_all, take-append-le, take-append-add}
 use borrow.Author.Tests.{le-leb, lt-leb, le-ltb, leb-true, leb-false, ltb-false}
 use Rattle.sheet.specs.Sheet.{sheet_limit, no_line, no_lines, with_line, with_all, lines_of}

@@ -14,7 +14,7 @@ use Rattle.lists.specs.InOrder.{in_order}
 use Rattle.sheet.specs.Line.{is_legal, same_cell}
 use Rattle.sheetfile.specs.Run.{line_frame, frames_of}
 use Rattle.sheet.specs.declared.line.Line.{Line}
-use Rattle.unit.specs.Unit.{Setting, value, Settings, same_setting, put, Unit, Holds, Done, takes, frame_done, after}
+use Rattle.unit.specs.Unit.{Setting, Settings, same_setting, put, Unit, Holds, Done, takes, frame_done, after}
 use Rattle.lists.specs.Each.{Each}
 use Rattle.unit.specs.Sending.{AreBytes, setting_of, NotOn, Apart, sending, sendings}
 use Rattle.unit.specs.Demand3.{stopped, Promised}

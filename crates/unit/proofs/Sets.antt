@@ -29,7 +29,7 @@ use Rattle.sheet.specs.Line.{legal_in, is_legal}
 use Rattle.sheetfile.specs.Run.{line_frame}
 use Rattle.sheet.specs.declared.line.Line.{Line}
 use Rattle.unit.specs.House.{is_not_calculated, value_after}
-use Rattle.unit.specs.Unit.{Setting, value, Settings, put, about, shown, Done, acted_in, done_by, frame_done}
+use Rattle.unit.specs.Unit.{Setting, Settings, put, about, shown, Done, acted_in, done_by, frame_done}
 use Rattle.unit.specs.Sending.{setting_of}
 use Rattle.unit.specs.UnitPromise.{LinePromise}
 use Rattle.unit.proofs.Tests.{clash, implies, implied}

@@ -14,7 +14,7 @@ use Rattle.row.specs.Table.{table, first_row}
 use Rattle.row.specs.declared.profile.Profile.{Profile}
 use Rattle.row.specs.declared.profile.Profile.TheVariants.{A}
 use Rattle.row.specs.declared.table.Row.{Row}
-use Rattle.judging.specs.Judge.{is_answer, row_judged}
+use Rattle.judging.specs.Judge.{is_answer}
 use Rattle.message.specs.Content.{content_of}
 use Rattle.message.specs.Message.{read_of}
 use Rattle.message.proofs.Tidy.{every, row_passes}

@@ -1,13 +1,8 @@
-use mathlib.Core.Path.{◌≡◌, refl, ap, ◌∙◌}
-use mathlib.Core.List.{List}
-use Prim.Native.Nat.{◌-◌, ◌≤◌, ◌<◌}
-use native.Mathlib.Omega.{arith}
-use lib.ListN.{length, get_or, set, replicate}
+use mathlib.Core.Path.{◌≡◌}
+use Prim.Native.Nat.{◌-◌, ◌≤◌}
+use lib.ListN.{length}
 use lib.Seq.{paste}
-use Rattle.sheet.specs.Sheet.{sheet_limit, no_line}
-use Rattle.sheet.specs.declared.line.Line.{Line}
-use Rattle.lending.specs.Room.{room_limit, room_of}
-use Rattle.lending.proofs.Rooms.{filled_more, filled}
+use Rattle.sheet.specs.Sheet.{sheet_limit}
 use Rattle.lending.proofs.room.room_of.Given as goal
 
 abbrev pub invariant-loop-i : goal.invariant-loop-i

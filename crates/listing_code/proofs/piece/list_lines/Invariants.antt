@@ -1,9 +1,6 @@
-use mathlib.Core.Path.{sym, ◌∙◌}
-use Prim.Native.Nat.{◌-◌, ◌≤◌, ◌<◌}
-use native.Mathlib.Omega.{arith}
 use lib.ListN.{length}
-use Rattle.listing_pieces.specs.Pieces.{line_limit, coming_from}
-use Rattle.listing_pieces.proofs.Pieces.{filled_full, filled_end, fewer, Filling, begun, ended, more}
+use Rattle.listing_pieces.specs.Pieces.{coming_from}
+use Rattle.listing_pieces.proofs.Pieces.{Filling}
 use Rattle.listing_code.proofs.piece.list_lines.Given as goal
 
 abbrev pub invariant-loop-buf : goal.invariant-loop-buf

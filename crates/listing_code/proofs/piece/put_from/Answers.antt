@@ -1,5 +1,5 @@
 -- The event at the place, or the totals where there is none.
-use Rattle.std.proofs.Common.{sym, ◌∙◌, arith, rules}
+use Rattle.std.proofs.Common.{arith, rules}
 use Rattle.frame.proofs.Leads.{leads}
 use Rattle.listing_code.proofs.piece.put_from.Goals as goal
 

@@ -1,11 +1,7 @@
-use mathlib.Core.Path.{◌≡◌, sym, ap, ◌∙◌}
+use mathlib.Core.Path.{◌≡◌}
 use Prim.Native.Nat.{◌-◌, ◌≤◌}
-use borrow.Author.Tests.{not-true, not-false}
-use lib.ListN.{length, take, drop}
-use Rattle.sheet.specs.Sheet.{no_line}
-use Rattle.sheet.proofs.Faults.{first_short}
+use lib.ListN.{take, drop}
 use Rattle.signing.specs.Sign.{all_hold}
-use Rattle.signing.proofs.Signs.{stops, goes_on, ends}
 use Rattle.signing_code.proofs.sign.all_hold.Given as goal
 
 abbrev pub invariant-loop-i : goal.invariant-loop-i

@@ -1,5 +1,5 @@
 -- Each event begins where the last one ended, and what it makes known is one cell or nothing.
-use Rattle.std.proofs.Common.{sym, ◌∙◌, arith}
+use Rattle.std.proofs.Common.{◌∙◌, arith}
 use Rattle.frame.specs.declared.direction.Direction.TheVariants.{Answer}
 use Rattle.frame.proofs.Leads.{leads}
 use Rattle.tracker.proofs.Captures.{feeds_told}

@@ -1,15 +1,11 @@
-use mathlib.Core.Path.{◌≡◌, sym, ◌∙◌}
+use mathlib.Core.Path.{◌≡◌}
 use Prim.Native.Nat.{◌-◌, ◌≤◌}
-use native.Mathlib.Omega.{arith}
 use lib.ListN.{length}
 use Rattle.lists.specs.InOrder.{in_order}
 use Rattle.frame.specs.Capture.{events_from}
 use Rattle.frame.specs.declared.direction.Direction.TheVariants.{Answer}
 use Rattle.tracker.specs.Feed.{answers_fed}
 use Rattle.tracker.specs.Capture.{brought_at, brought_by}
-use Rattle.frame.proofs.Leads.{leads}
-use Rattle.tracker.proofs.Captures.{feeds_told, feeds_end}
-use Rattle.tracker.proofs.Tells.{inside_at}
 use Rattle.tracker_code.proofs.capture.feed_events.Given as goal
 
 abbrev pub invariant-loop-event : goal.invariant-loop-event
