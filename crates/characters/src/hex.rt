@@ -28,7 +28,6 @@ pub fn hex_value(byte: u8) -> HexValue
 }
 
 // The hex digit of a value's low four bits. A `match` that gives one number an arm is a constant table.
-#[tactic(auto, using(lists::proofs::Past::past_all))]
 pub fn hex_digit(value: u8) -> u8
     ensures { result ≡ hex_digit (value % 16) }
 {

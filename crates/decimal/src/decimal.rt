@@ -23,7 +23,6 @@ pub fn write_decimal(buf: &mut [u8], at: usize, number: u32) -> Written
 }
 
 // Writes a number that may be below zero, and then with a minus sign; 9 where there is no room.
-#[tactic(auto, using(characters::proofs::Sizes::minus_text, characters::proofs::Sizes::plain_text))]
 pub fn write_integer(buf: &mut [u8], at: usize, number: i32) -> Written
     ensures answers { result ≡ write_answered [] buf.old at (integer number) }
     ensures leaves { buf.new ≡ write_left [] buf.old at (integer number) }
@@ -52,7 +51,6 @@ fn write_minus(buf: &mut [u8], at: usize, size: u32) -> Written
 }
 
 // How many digits a number has.
-#[tactic(auto, using(characters::proofs::Digits::decimal_long))]
 fn digits_of(number: u32) -> usize
     ensures { result ≡ length (decimal number) }
 {
@@ -87,7 +85,7 @@ fn digits_of(number: u32) -> usize
 }
 
 // The last digits of a number, so many, from the last to the first.
-#[tactic(auto, unfolding(characters::specs::Computed::last_digits), using(characters::proofs::Digits::digits_count, characters::proofs::Digits::digit_before, characters::proofs::Digits::set_before))]
+#[tactic(auto, unfolding(characters::specs::Computed::last_digits))]
 fn put_digits(buf: &mut [u8], at: usize, number: u32, count: usize)
     requires { at + count ≤ length buf.old }
     ensures { buf.new ≡ placed buf.old at (last_digits count number) }
@@ -102,7 +100,6 @@ fn put_digits(buf: &mut [u8], at: usize, number: u32, count: usize)
 }
 
 // A number without its sign. The wider type is for the least number, which has no counterpart.
-#[tactic(auto, using(characters::proofs::Sizes::Sized, characters::proofs::Sizes::wide, characters::proofs::Sizes::turned, characters::proofs::Sizes::itself))]
 fn size_of(number: i32) -> u32
     ensures { result ≡ nat_abs number }
 {

@@ -21,7 +21,6 @@ pub enum Brought {
 }
 
 // The zone, command and answer code of the bytes of one whole frame.
-#[tactic(auto, using(frame::proofs::Header::header_least, crate::proofs::Whole::is_whole))]
 pub fn frame_fields(direction: Direction, bytes: &[u8]) -> Brought
     ensures { result ≡ fields_of direction bytes.now }
 {
@@ -49,7 +48,7 @@ pub fn frame_data(direction: Direction, bytes: &[u8]) -> &[u8]
 }
 
 // Whether the bytes are one whole frame: 21 first, as many as Dl says, 0D last.
-#[tactic(auto, unfolding(crate::specs::Fields::is_frame), using(frame::proofs::Header::header_least, crate::proofs::Whole::wrong_length_lem))]
+#[tactic(auto, unfolding(crate::specs::Fields::is_frame))]
 fn is_frame(direction: Direction, bytes: &[u8]) -> bool
     ensures { result ≡ is_frame direction bytes.now }
 {

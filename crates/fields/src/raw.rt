@@ -48,7 +48,6 @@ fn put_frame(tail: &mut [u8], direction: Direction, zone: u8, command: u8, answe
 }
 
 // The header at the head of the tail.
-#[tactic(auto, using(frame::proofs::Header::header_least))]
 fn put_header(tail: &mut [u8], direction: Direction, zone: u8, command: u8, answer: u8, count: u8)
     requires { header direction ≤ length tail.old }
     ensures { tail.new ≡ header_of direction zone command answer count ++ drop (header direction) tail.old }

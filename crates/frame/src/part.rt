@@ -16,7 +16,7 @@ pub struct Part {
 }
 
 // Takes a part of a stream from a given reader; the next part goes on from the reader it gives.
-#[tactic(auto, using(crate::proofs::Parts::part_from, crate::proofs::Parts::part_more, crate::proofs::Parts::part_end, crate::proofs::Parts::part_adds, crate::proofs::Parts::held, crate::proofs::Parts::held_more))]
+#[tactic(auto, using(crate::proofs::Parts::part_more, crate::proofs::Parts::part_end, crate::proofs::Parts::part_adds, crate::proofs::Parts::held_more))]
 pub fn take_part(reader: Reader, bytes: &[u8]) -> Part
     ensures { result ≡ part_of reader bytes.now }
 {

@@ -67,7 +67,6 @@ impl Reader {
 
     // Takes one byte. Whatever the fields hold is answered: a place past the end place counts as the
     // end place.
-    #[tactic(auto, using(crate::proofs::Header::header_most))]
     pub fn feed(self, byte: u8) -> Fed
         ensures { result ≡ fed_of self byte }
     {

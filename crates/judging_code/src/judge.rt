@@ -47,7 +47,6 @@ pub fn judge_row(profile: Profile, zone: u8, command: u8) -> Judged
 }
 
 // Whether a row has these data in a direction.
-#[tactic(auto, using(judging::proofs::Judges::length_some))]
 pub fn data_fit(direction: Direction, row: Row, body: &[u8]) -> bool
     ensures { result ≡ has_data direction row body.now }
 {

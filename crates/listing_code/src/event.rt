@@ -20,7 +20,6 @@ use message_read::read::read_frame;
 use row::profile::Profile;
 
 // Where it is, how long it is, and what it is.
-#[tactic(auto, unfolding(characters::specs::Letters::letters, listing_text::specs::Listing::text_line), using(listing_pieces::proofs::Puts::both, listing_pieces::proofs::Puts::said, listing_pieces::proofs::Puts::line_behind))]
 pub(crate) fn put_event(
     profile: Profile,
     direction: Direction,
@@ -47,7 +46,7 @@ pub(crate) fn put_event(
 }
 
 // What stands behind the place and the length.
-#[tactic(auto, unfolding(characters::specs::Letters::letters, listing_text::specs::Listing::text_line), using(listing_pieces::proofs::Puts::wider))]
+#[tactic(auto, unfolding(characters::specs::Letters::letters, listing_text::specs::Listing::text_line))]
 fn put_kind(
     profile: Profile,
     direction: Direction,
@@ -67,7 +66,7 @@ fn put_kind(
     }
 }
 
-#[tactic(auto, unfolding(characters::specs::Letters::letters, listing_text::specs::Listing::text_line), using(listing_pieces::proofs::Puts::wider))]
+#[tactic(auto, unfolding(characters::specs::Letters::letters, listing_text::specs::Listing::text_line))]
 fn put_reading(reading: FrameReading, buf: &mut [u8], at: usize) -> usize
     requires { at + 27 ≤ length buf.old }
     ensures { Put 27 buf.old at (behind (read_text reading)) buf.new result }
@@ -79,7 +78,6 @@ fn put_reading(reading: FrameReading, buf: &mut [u8], at: usize) -> usize
     }
 }
 
-#[tactic(auto, unfolding(characters::specs::Letters::letters, listing_text::specs::Listing::text_line), using(listing_pieces::proofs::Puts::both))]
 fn put_unread(number: u8, buf: &mut [u8], at: usize) -> usize
     requires { at + 20 ≤ length buf.old }
     ensures { Put 20 buf.old at (behind (read_text (reading.Refused number))) buf.new result }
@@ -89,7 +87,7 @@ fn put_unread(number: u8, buf: &mut [u8], at: usize) -> usize
     put_bytes(buf, second, b"\n")
 }
 
-#[tactic(auto, unfolding(characters::specs::Letters::letters, listing_text::specs::Listing::text_line), using(listing_pieces::proofs::Puts::wider))]
+#[tactic(auto, unfolding(characters::specs::Letters::letters, listing_text::specs::Listing::text_line))]
 fn put_message(message: Message, buf: &mut [u8], at: usize) -> usize
     requires { at + 27 ≤ length buf.old }
     ensures { Put 27 buf.old at (behind (read_text (reading.Message message))) buf.new result }
@@ -110,7 +108,6 @@ fn shown_of(message: Message) -> Shown
     }
 }
 
-#[tactic(auto, unfolding(characters::specs::Letters::letters), using(listing_pieces::proofs::Puts::both, listing_pieces::proofs::Puts::both_behind, listing_pieces::proofs::Puts::wider))]
 fn put_said(said: Said, answered: bool, buf: &mut [u8], at: usize) -> usize
     requires { at + 27 ≤ length buf.old }
     ensures { Put 27 buf.old at (said_behind (answer_text answered) said) buf.new result }
@@ -123,7 +120,7 @@ fn put_said(said: Said, answered: bool, buf: &mut [u8], at: usize) -> usize
 
 // The answer with a space on either side: a dash in commands; a status was answered with 00. Each text is put as it
 // stands: one that is passed on is copied byte by byte.
-#[tactic(auto, unfolding(characters::specs::Letters::letters), using(listing_pieces::proofs::Puts::wider))]
+#[tactic(auto, unfolding(characters::specs::Letters::letters))]
 fn put_answer(answered: bool, buf: &mut [u8], at: usize) -> usize
     requires { at + 4 ≤ length buf.old }
     ensures { Put 4 buf.old at (answer_text answered) buf.new result }
@@ -134,7 +131,6 @@ fn put_answer(answered: bool, buf: &mut [u8], at: usize) -> usize
     put_bytes(buf, at, b" - ")
 }
 
-#[tactic(auto, unfolding(characters::specs::Letters::letters, listing_text::specs::Listing::text_line), using(listing_pieces::proofs::Puts::both, listing_pieces::proofs::Puts::both_behind))]
 fn put_denied(denial: Denial, buf: &mut [u8], at: usize) -> usize
     requires { at + 22 ≤ length buf.old }
     ensures { Put 22 buf.old at (behind (read_text (reading.Message (message.Denied denial)))) buf.new result }
@@ -146,7 +142,6 @@ fn put_denied(denial: Denial, buf: &mut [u8], at: usize) -> usize
 }
 
 // The event's word, the zone and the command.
-#[tactic(auto, unfolding(characters::specs::Letters::letters), using(listing_pieces::proofs::Puts::both))]
 fn put_named(word: &[u8], zone: u8, command: u8, buf: &mut [u8], at: usize) -> usize
     requires { at + (length word.now + 8) ≤ length buf.old }
     ensures { Put (length word.now + 8) buf.old at (word.now ++ (decimal zone ++ (letters " " ++ hex_byte command))) buf.new result }
@@ -158,7 +153,6 @@ fn put_named(word: &[u8], zone: u8, command: u8, buf: &mut [u8], at: usize) -> u
 }
 
 // The value, and the line's end.
-#[tactic(auto, unfolding(characters::specs::Letters::letters), using(listing_pieces::proofs::Puts::both))]
 fn put_last(content: Content, buf: &mut [u8], at: usize) -> usize
     requires { at + 8 ≤ length buf.old }
     ensures { Put 8 buf.old at (value_text content ++ letters "\n") buf.new result }
@@ -167,7 +161,7 @@ fn put_last(content: Content, buf: &mut [u8], at: usize) -> usize
     put_bytes(buf, end, b"\n")
 }
 
-#[tactic(auto, unfolding(characters::specs::Letters::letters), using(listing_pieces::proofs::Puts::wider))]
+#[tactic(auto, unfolding(characters::specs::Letters::letters))]
 fn put_value(content: Content, buf: &mut [u8], at: usize) -> usize
     requires { at + 7 ≤ length buf.old }
     ensures { Put 7 buf.old at (value_text content) buf.new result }
@@ -186,7 +180,6 @@ fn put_value(content: Content, buf: &mut [u8], at: usize) -> usize
 }
 
 // An input of S 0F and its state.
-#[tactic(auto, unfolding(characters::specs::Letters::letters, characters::specs::Decimal::decimal_in), using(listing_pieces::proofs::Puts::both))]
 fn put_input(input: u8, on: bool, buf: &mut [u8], at: usize) -> usize
     requires { at + 7 ≤ length buf.old }
     ensures { Put 7 buf.old at (value_text (content.Input input on)) buf.new result }

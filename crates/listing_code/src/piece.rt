@@ -31,7 +31,6 @@ struct Turn {
 // Gives out the listing of an input from a place on, at the head of the buffer: lines as long as 64 bytes are left
 // for one. Begin at the start and go on at the place that is answered; a piece of no bytes is the end. 9 for a
 // buffer of less than 64 bytes, and then it is as it was.
-#[tactic(auto, using(listing_text::proofs::Asks::asked_small))]
 pub fn list_piece(input: &[u8], place: Place, buf: &mut [u8]) -> Piece
     ensures answers { result ≡ piece_answered input.now place buf.old }
     ensures leaves { buf.new ≡ piece_left input.now place buf.old }
@@ -48,7 +47,7 @@ pub fn list_piece(input: &[u8], place: Place, buf: &mut [u8]) -> Piece
 }
 
 // Refused input has one line.
-#[tactic(auto, unfolding(characters::specs::Letters::letters, listing_text::specs::Listing::text_line, listing_pieces::specs::Pieces::filled), using(listing_pieces::proofs::Puts::both, listing_pieces::proofs::Pieces::one_line_lem))]
+#[tactic(auto, unfolding(characters::specs::Letters::letters, listing_text::specs::Listing::text_line, listing_pieces::specs::Pieces::filled))]
 fn list_refusal(number: u8, place: Place, buf: &mut [u8]) -> Piece
     requires { line_limit ≤ length buf.old }
     ensures answers { result ≡ text_as (filled (length buf.old) place (coming_refused number place)) }
@@ -104,7 +103,7 @@ fn is_end(place: Place) -> bool
 }
 
 // The next line: the heading, an event, or the totals.
-#[tactic(auto, unfolding(characters::specs::Letters::letters), using(listing_pieces::proofs::Puts::wider, listing_pieces::proofs::Puts::nothing))]
+#[tactic(auto, unfolding(characters::specs::Letters::letters))]
 fn put_next(
     profile: Profile,
     direction: Direction,
@@ -134,7 +133,7 @@ fn put_next(
 }
 
 // The event that starts at a place, or the totals where there is none.
-#[tactic(auto, unfolding(listing_pieces::specs::Pieces::coming_events), using(frame::proofs::Leads::leads, frame::proofs::Leads::none_first, listing_pieces::proofs::Puts::wider))]
+#[tactic(auto, unfolding(listing_pieces::specs::Pieces::coming_events))]
 fn put_from(
     profile: Profile,
     direction: Direction,
@@ -174,7 +173,6 @@ fn put_totals(direction: Direction, capture: &[u8], buf: &mut [u8], at: usize) -
     put_total_line(capture.len(), totals, buf, at)
 }
 
-#[tactic(auto, unfolding(characters::specs::Letters::letters, listing_text::specs::Listing::text_line), using(listing_pieces::proofs::Puts::both))]
 fn put_total_line(count: usize, totals: Totals, buf: &mut [u8], at: usize) -> usize
     requires { (at + 63 ≤ length buf.old) × (count < 2 ^ 16) × (totals.frame < 2 ^ 16) × (totals.broken < 2 ^ 16) × (totals.noise < 2 ^ 16) × (totals.pending < 2 ^ 16) }
     ensures { Put 63 buf.old at (total_line count totals) buf.new result }
@@ -188,7 +186,6 @@ fn put_total_line(count: usize, totals: Totals, buf: &mut [u8], at: usize) -> us
 }
 
 // A word, and a number of at most five digits.
-#[tactic(auto, using(listing_pieces::proofs::Puts::both))]
 fn put_counted(word: &[u8], count: usize, buf: &mut [u8], at: usize) -> usize
     requires { (count < 2 ^ 16) × (at + (length word.now + 5) ≤ length buf.old) }
     ensures { Put (length word.now + 5) buf.old at (word.now ++ decimal count) buf.new result }

@@ -18,7 +18,6 @@ pub(crate) fn put_bytes(buf: &mut [u8], at: usize, text: &[u8]) -> usize
 }
 
 // A number of at most five digits.
-#[tactic(auto, using(characters::proofs::Digits::decimal_most, listing_pieces::proofs::Puts::wrote, listing_pieces::proofs::Puts::within))]
 pub(crate) fn put_number(buf: &mut [u8], at: usize, number: u16) -> usize
     requires { at + 5 ≤ length buf.old }
     ensures { Put 5 buf.old at (decimal number) buf.new result }
@@ -27,7 +26,6 @@ pub(crate) fn put_number(buf: &mut [u8], at: usize, number: u16) -> usize
 }
 
 // A number that may be below zero.
-#[tactic(auto, unfolding(characters::specs::Letters::letters), using(characters::proofs::Digits::decimal_most, listing_pieces::proofs::Puts::wrote, listing_pieces::proofs::Puts::within))]
 pub(crate) fn put_integer(buf: &mut [u8], at: usize, number: i16) -> usize
     requires { at + 6 ≤ length buf.old }
     ensures { Put 6 buf.old at (integer number) buf.new result }
@@ -35,7 +33,6 @@ pub(crate) fn put_integer(buf: &mut [u8], at: usize, number: i16) -> usize
     behind(at, write_integer(buf, at, number as i32))
 }
 
-#[tactic(auto, using(listing_pieces::proofs::Puts::wrote, listing_pieces::proofs::Puts::within))]
 pub(crate) fn put_hex(buf: &mut [u8], at: usize, byte: u8) -> usize
     requires { at + 2 ≤ length buf.old }
     ensures { Put 2 buf.old at (hex_byte byte) buf.new result }

@@ -16,7 +16,6 @@ pub enum Asked {
 }
 
 // The two letters, and a capture of at most 60,000 bytes behind them.
-#[tactic(auto, using(crate::proofs::Asks::asked_short, crate::proofs::Asks::asked_letters))]
 pub fn what_is_asked(input: &[u8]) -> Asked
     ensures { result ≡ asked input.now }
 {

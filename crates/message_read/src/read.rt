@@ -60,7 +60,6 @@ pub fn read_message(
 
 // The data of the denied message that the bytes of a frame are, as they came: a part of the bytes lent. Other
 // messages have theirs in their content.
-#[tactic(auto, using(message::proofs::Readings::denied_some, message::proofs::Readings::denied_none))]
 pub fn denied_data(profile: Profile, direction: Direction, bytes: &[u8]) -> &[u8]
     ensures { result.now ≡ denied_in (frame_read profile direction bytes.now) (data_of direction bytes.now) }
 {

@@ -13,7 +13,7 @@ pub enum Coded {
 }
 
 // The number that `code` means: 00 to 7F themselves, 80 and up minus (code less 80 hex).
-#[tactic(auto, unfolding(crate::specs::Signed::number_of), using(crate::proofs::Ranges::less, crate::proofs::Ranges::minus_fits))]
+#[tactic(auto, unfolding(crate::specs::Signed::number_of))]
 pub fn number_of(code: u8) -> i16
     ensures { result ≡ number_of code }
 {
@@ -24,7 +24,7 @@ pub fn number_of(code: u8) -> i16
 }
 
 // The code that means `number`, or none where none does; 0 gives 00, never 80.
-#[tactic(auto, using(crate::proofs::Ranges::none_below, crate::proofs::Ranges::none_above, crate::proofs::Ranges::Codes, crate::proofs::Ranges::minus, crate::proofs::Ranges::itself))]
+#[tactic(auto, using(crate::proofs::Ranges::none_below, crate::proofs::Ranges::none_above, crate::proofs::Ranges::itself))]
 pub fn code_of(number: i16) -> Coded
     ensures { result ≡ code_of number }
 {

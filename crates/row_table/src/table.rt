@@ -86,7 +86,6 @@ pub fn find_row(profile: Profile, command: u8) -> Found
 }
 
 // The number of the row that a profile has for a command; 0 for none.
-#[tactic(auto, unfolding(row::specs::Table::table, row::specs::Table::first_row, row::specs::Kind::kind_at, lists::proofs::Tests::upto), using(row::proofs::Named::tables_have))]
 fn kind_of(profile: Profile, command: u8) -> u8
     ensures { result ≡ kind_of profile command }
 {
@@ -134,7 +133,6 @@ fn kind_in_own(profile: Profile, a: [[u8; 16]; 16], s: [[u8; 16]; 16], line: usi
 }
 
 // The number at a place of a line.
-#[tactic(auto, using(lists::proofs::Past::past_all))]
 fn kind_in_line(line: [u8; 16], low: u8) -> u8
     requires { low < 16 }
     ensures { result ≡ get_or line low 0 }
@@ -161,7 +159,7 @@ fn kind_in_line(line: [u8; 16], low: u8) -> u8
 
 // The numbers of a row. The places are written out, so that the compiler takes the numbers as constants: where it does
 // not know the place it builds the whole table in memory, at each call.
-#[tactic(auto, unfolding(row::specs::Table::table), using(lists::proofs::Past::past_all))]
+#[tactic(auto, unfolding(row::specs::Table::table))]
 fn numbers_at(place: usize) -> [u8; 14]
     requires { place < row_count }
     ensures { Found.Row (row_from result place) ≡ row_at table place }

@@ -12,7 +12,6 @@ use sheet::check::Verdict;
 use sheetfile::write::{Form, SheetWritten};
 
 // The check of a sheet that comes as its file: 12 for a letter that names no profile, then the file's refusals.
-#[tactic(auto, using(sheetfile::proofs::Plains::verdict_by))]
 pub fn check_file(letter: u8, file: &[u8]) -> Verdict
     ensures { result ≡ file_verdict_by (profile_of letter) file.now }
 {

@@ -29,7 +29,6 @@ pub fn read_file_by_letter(letter: u8, file: &[u8]) -> FileRead
 
 // Reads a sheet file: 10 where its length is not whole records, then for the lowest record with a wrong mark
 // or profile; then the sheet's checks.
-#[tactic(auto, using(sheetfile::proofs::Files::file_broken, sheetfile::proofs::Files::file_whole))]
 pub fn read_file(profile: Profile, file: &[u8]) -> FileRead
     ensures { result ≡ file_read profile file.now }
 {

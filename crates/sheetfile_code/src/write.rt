@@ -105,7 +105,6 @@ fn flush_of(count: usize) -> usize
 }
 
 // The zeros, and then the lines in their own tail.
-#[tactic(auto, using(sheetfile::proofs::Filled::filled_tail, sheetfile::proofs::Filled::in_order_length, sheetfile::proofs::Filled::bytes_six, sheetfile::proofs::Filled::sheet_bytes_lem))]
 fn put_bytes(
     tail: &mut [u8],
     form: Form,
@@ -122,7 +121,6 @@ fn put_bytes(
 }
 
 // Zeros at the head of the tail.
-#[tactic(auto, using(sheetfile::proofs::Filled::zeros_more))]
 fn put_zeros(tail: &mut [u8], count: usize)
     requires { count ≤ length tail.old }
     ensures { tail.new ≡ replicate count 0 ++ drop count tail.old }
@@ -135,7 +133,7 @@ fn put_zeros(tail: &mut [u8], count: usize)
 }
 
 // Each line in its own tail.
-#[tactic(auto, unfolding(lists::specs::InOrder::in_order), using(sheetfile::proofs::Filled::filled_tail, sheetfile::proofs::Filled::in_order_more, sheetfile::proofs::Filled::in_order_length, sheetfile::proofs::Filled::bytes_six))]
+#[tactic(auto, unfolding(lists::specs::InOrder::in_order))]
 fn put_lines(
     tail: &mut [u8],
     form: Form,
@@ -178,7 +176,6 @@ fn put_record(tail: &mut [u8], profile: Profile, line: Line)
 }
 
 // The frame of the command that sets a line's value, by the frame writer.
-#[tactic(auto, unfolding(frame::specs::Frame::frame_of), using(fields::proofs::Raws::raw_left))]
 fn put_command(tail: &mut [u8], line: Line)
     requires { record_size ≤ length tail.old }
     ensures { tail.new ≡ line_frame line ++ drop record_size tail.old }

@@ -57,7 +57,6 @@ pub fn cell_in_capture(letter: u8, capture: &[u8], zone: u8, command: u8) -> Cap
     }
 }
 
-#[tactic(auto, using(signing::proofs::Plains::as_signed))]
 fn sign_file_by(profile: Profile, file: &[u8], capture: &[u8]) -> Signed
     ensures { result ≡ file_signed profile file.now capture.now }
 {
@@ -99,7 +98,6 @@ fn held_as(signed: Signed, new: Tracker, fed: Tracker, lines: Sheet) -> HeldFile
     }
 }
 
-#[tactic(auto, using(signing::proofs::Plains::cell_fed, signing::proofs::Plains::cell_refused))]
 fn cell_by(profile: Profile, capture: &[u8], zone: u8, command: u8) -> CaptureCell
     ensures { result ≡ capture_cell profile capture.now zone command }
 {

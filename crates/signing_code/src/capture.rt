@@ -12,7 +12,6 @@ use tracker_code::known::new_tracker;
 
 // Signs a sheet off by a capture alone, with a tracker of its own: 11 first, then the sheet's refusal,
 // then yes or no.
-#[tactic(auto, using(signing::proofs::CaptureSigns::signs_fed, signing::proofs::CaptureSigns::signs_refused))]
 pub fn capture_signs(profile: Profile, sheet: Sheet, capture: &[u8]) -> Signed
     ensures { result ≡ capture_signed profile (lines_of sheet) capture.now }
 {
