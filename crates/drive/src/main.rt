@@ -35,12 +35,23 @@ fn read_lines(out: &mut Output, from: Stdin, line: &mut [u8]) -> io::Result<()> 
     let mut input = [0u8; READ];
     let mut count = 0;
     for read in 0..READS {
-        let got = read_full(from, &mut input)?;
+        let got = match read_full(from, &mut input) {
+            Ok(got) => got,
+            Err(error) => {
+                end_line(out, line, count)?;
+                return Err(error);
+            }
+        };
         if got == 0 {
             break;
         }
         count = take_bytes(out, lent::part::bytes_at(&input, 0, got), line, count)?;
     }
+    end_line(out, line, count)
+}
+
+// The last line, where it has no line feed.
+fn end_line(out: &mut Output, line: &mut [u8], count: usize) -> io::Result<()> {
     if count > 0 {
         operate(out, line, count)?;
     }

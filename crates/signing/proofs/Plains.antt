@@ -2,7 +2,7 @@
 use mathlib.Core.Path.{◌≡◌, refl, ap, sym, ◌∙◌}
 use mathlib.Core.Bool.{Bool, true, false}
 use mathlib.Core.List.{List, [], ◌∷◌}
-use Prim.Native.Nat.{ℕ, ◌≤◌}
+use Prim.Native.Nat.{ℕ, ◌≤◌, ◌<◌}
 use native.Mathlib.Omega.{arith}
 use borrow.Author.Tests.{ne_eqb, lt-ltb, le-ltb, ltb-true, ltb-false}
 use lib.Dec.{ltb}
@@ -25,6 +25,7 @@ use Rattle.sheetfile.proofs.Plains.{said, both, sheet_read}
 use Rattle.tracker.specs.Tracker.{fresh_tracker, kept_in}
 use Rattle.signing.specs.Sign.{all_hold, yes_or_no, signed_by}
 use Rattle.tracker.specs.Capture.{brought_by, tracked_by, capture_fed}
+use Rattle.signing.specs.Capture.{capture_signed}
 use Rattle.tracker.specs.Numbers.{kept_state, kept_byte}
 use Rattle.signing.specs.ByLetter.{file_signed, held_as, held_file, shown_cell, capture_cell, capture_cell_number, capture_cell_state, capture_cell_byte}
 use Rattle.signing.specs.Computed.{signed_after}
@@ -39,7 +40,8 @@ use Rattle.tracker.specs.declared.capture.CaptureAnswer.TheVariants as answer
 use Rattle.tracker.proofs.Captures.{fed_long, fed_short}
 use Rattle.signing.specs.declared.by_letter.CaptureCell.TheVariants as cell
 use Rattle.signing.proofs.Signs.{its_verdict}
-use Rattle.signing.proofs.CaptureSigns.{fed_not, same_number}
+use Rattle.signing.proofs.CaptureSigns.{fed_not, same_number, short}
+use Rattle.signing.proofs.Together.{capture_together}
 
 module _ (profile : Profile) (file : List ℕ) where
   abbrev lines : List Line
@@ -62,6 +64,26 @@ module _ (profile : Profile) (file : List ℕ) where
           → signed_by (file_read profile file).verdict (all_hold t (lines_of (file_read profile file).sheet)) ≡ signed_by (file_verdict profile file) (all_hold t lines)
       go verdict.Accepted e = rw (read_lines e, e, said profile file verdict.Accepted e)
       go (verdict.Refused n i) e = rw (e, said profile file (verdict.Refused n i) e)
+
+-- over the limit, refused, and accepted
+module _ (profile : Profile) (file capture : List ℕ) where
+  pub file_long : capture_limit < length capture → file_signed profile file capture ≡ signed.Refused 11 0
+  file_long h = rw (lt-ltb capture_limit (length capture) h)
+
+  within : length capture ≤ capture_limit → (v : Verdict) → (file_read profile file).verdict ≡ v → file_signed profile file capture ≡ signed_by v (all_hold (tracked_by profile capture) (lines profile file))
+  within h v e = rw (le-ltb capture_limit (length capture) h, said profile file v e)
+
+  pub file_refused : length capture ≤ capture_limit → (n i : ℕ) → (file_read profile file).verdict ≡ verdict.Refused n i → file_signed profile file capture ≡ signed.Refused n i
+  file_refused h n i e = within h (verdict.Refused n i) e
+
+  pub file_accepted : length capture ≤ capture_limit → (file_read profile file).verdict ≡ verdict.Accepted
+      → capture_signed profile (lines_of (file_read profile file).sheet) capture ≡ file_signed profile file capture
+  file_accepted h e =
+      ap (λ (s : Sheet). capture_signed profile (lines_of s) capture) (sheet_read profile file e)
+      ∙ capture_together profile (lines profile file) capture
+      ∙ short profile (lines profile file) capture h
+      ∙ ap (λ (v : Verdict). signed_by v (all_hold (tracked_by profile capture) (lines profile file))) (its_verdict profile (brought_by capture) (lines profile file) ∙ both profile file e ∙ said profile file verdict.Accepted e)
+      ∙ sym (within h verdict.Accepted e)
 
 -- a sign-off goes on from feeding and reading
 pub held_signed : (profile : Profile) (file capture : List ℕ) (f : CaptureFed) → f ≡ capture_fed (fresh_tracker profile) capture

@@ -13,11 +13,14 @@ use Rattle.lists.proofs.Each.{each_map}
 use Rattle.lists.proofs.Tests.{both}
 use Rattle.row.specs.declared.profile.Profile.{Profile}
 use Rattle.row.specs.declared.table.Row.{Row}
+use Rattle.sheet.specs.Sheet.{sheet_limit, lines_of}
 use Rattle.sheet.specs.Check.{sheet_verdict}
 use Rattle.sheet.specs.SheetPromise.{AllSound}
 use Rattle.sheet.specs.declared.line.Line.{Line}
+use Rattle.sheet.specs.declared.sheet.Sheet.{Sheet}
 use Rattle.sheet.specs.declared.check.Verdict.{Verdict}
 use Rattle.sheet.specs.declared.check.Verdict.TheVariants as verdict
+use Rattle.sheet.proofs.Faults.{first_many}
 use Rattle.sheet.proofs.Sheets.{sheet_promise}
 use Rattle.sheet.proofs.Repeats.{here}
 use Rattle.tracker.specs.CellPromise.{HasCell}
@@ -33,6 +36,10 @@ use Rattle.signing.specs.declared.sign.Signed.TheVariants.{Yes, No}
 use Rattle.tracker.proofs.Cells.{cell_or_none, legal_cell}
 use Rattle.tracker.proofs.Keeps.{none_kept}
 use Rattle.tracker.proofs.History.{all_profile, history_promise}
+
+-- an accepted sheet has no more lines than there is room for
+pub accepted_count : (profile : Profile) (s : Sheet) → sheet_verdict profile (lines_of s) ≡ verdict.Accepted → s.count ≤ sheet_limit
+accepted_count profile s e = rw (first_many s.lines s.count) at ((sheet_promise profile (lines_of s)).only e).0
 
 -- along the first lines of an array
 module _ (t : Tracker) (lines : List Line) (count : ℕ) (room : count ≤ length lines) (i : ℕ) (d : Line) where

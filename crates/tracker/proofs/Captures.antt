@@ -30,7 +30,7 @@ module _ (capture : List ℕ) (at : ℕ) (t : Tracker) where
   fed_from x k = answers_fed x (in_order (brought_at capture) (events_from Answer capture k))
 
   -- one turn of the walk, and its end
-  feeds_on : (e : Event) → next.Event e ≡ first_of (events_from Answer capture at) → fed_from t at ≡ fed_from (answers_fed t (brought_at capture e)) (at + e.length)
+  pub feeds_on : (e : Event) → next.Event e ≡ first_of (events_from Answer capture at) → fed_from t at ≡ fed_from (answers_fed t (brought_at capture e)) (at + e.length)
   unfolding in_order
   feeds_on e f =
       ap (λ (es : List Event). answers_fed t (in_order (brought_at capture) es)) (leads Answer capture at e f).behind
