@@ -65,6 +65,17 @@ module _ (profile : Profile) (file : List ℕ) where
       go verdict.Accepted e = rw (read_lines e, e, said profile file verdict.Accepted e)
       go (verdict.Refused n i) e = rw (e, said profile file (verdict.Refused n i) e)
 
+-- a sign-off goes on from feeding and reading
+pub held_signed : (profile : Profile) (file capture : List ℕ) (f : CaptureFed) → f ≡ capture_fed (fresh_tracker profile) capture
+    → signed_after f.answer (file_read profile file).verdict (all_hold f.tracker (lines_of (file_read profile file).sheet)) ≡ file_signed profile file capture
+held_signed profile file capture f e = rw e (go (ltb capture_limit (length capture)) refl)
+  where
+    go : (t : Bool) → ltb capture_limit (length capture) ≡ t
+        → signed_after (capture_fed (fresh_tracker profile) capture).answer (file_read profile file).verdict (all_hold (capture_fed (fresh_tracker profile) capture).tracker (lines_of (file_read profile file).sheet))
+        ≡ file_signed profile file capture
+    go true g = rw g
+    go false g = rw g (by_reading profile file (tracked_by profile capture))
+
 -- over the limit, refused, and accepted
 module _ (profile : Profile) (file capture : List ℕ) where
   pub file_long : capture_limit < length capture → file_signed profile file capture ≡ signed.Refused 11 0
@@ -84,17 +95,6 @@ module _ (profile : Profile) (file capture : List ℕ) where
       ∙ short profile (lines profile file) capture h
       ∙ ap (λ (v : Verdict). signed_by v (all_hold (tracked_by profile capture) (lines profile file))) (its_verdict profile (brought_by capture) (lines profile file) ∙ both profile file e ∙ said profile file verdict.Accepted e)
       ∙ sym (within h verdict.Accepted e)
-
--- a sign-off goes on from feeding and reading
-pub held_signed : (profile : Profile) (file capture : List ℕ) (f : CaptureFed) → f ≡ capture_fed (fresh_tracker profile) capture
-    → signed_after f.answer (file_read profile file).verdict (all_hold f.tracker (lines_of (file_read profile file).sheet)) ≡ file_signed profile file capture
-held_signed profile file capture f e = rw e (go (ltb capture_limit (length capture)) refl)
-  where
-    go : (t : Bool) → ltb capture_limit (length capture) ≡ t
-        → signed_after (capture_fed (fresh_tracker profile) capture).answer (file_read profile file).verdict (all_hold (capture_fed (fresh_tracker profile) capture).tracker (lines_of (file_read profile file).sheet))
-        ≡ file_signed profile file capture
-    go true g = rw g
-    go false g = rw g (by_reading profile file (tracked_by profile capture))
 
 -- what is given with a sign-off
 module _ (new fed : Tracker) (lines : Sheet) where
