@@ -8,37 +8,37 @@ use lib.Dec.{ltb}
 use Rattle.characters.specs.Class.{is_from, is_digit, is_hex_digit}
 use Rattle.characters.specs.Hex.{hex_value, hex_digit, hex_count, hex_read}
 use Rattle.characters.specs.HexPromise.{HexPromise}
-use Rattle.characters.specs.declared.hex.HexValue.TheVariants.{Value, NotHex}
 use Rattle.characters.proofs.Classes.{within, above, bounds}
+use Rattle.std.specs.Prelude.{None, Some}
 
 module _ (b : ℕ) where
-  pub value_digit : is_digit b ≡ true → hex_value b ≡ Value (b - 0x30)
+  pub value_digit : is_digit b ≡ true → hex_value b ≡ Some (b - 0x30)
   unfolding hex_value
   value_digit e = rw e
 
-  pub value_letter : is_digit b ≡ false → is_from 0x41 0x46 b ≡ true → hex_value b ≡ Value (b - 0x41 + 10)
+  pub value_letter : is_digit b ≡ false → is_from 0x41 0x46 b ≡ true → hex_value b ≡ Some (b - 0x41 + 10)
   unfolding hex_value
   value_letter e f = rw (e, f)
 
-  pub value_none : is_digit b ≡ false → is_from 0x41 0x46 b ≡ false → hex_value b ≡ NotHex
+  pub value_none : is_digit b ≡ false → is_from 0x41 0x46 b ≡ false → hex_value b ≡ None
   unfolding hex_value
   value_none e f = rw (e, f)
 
-value : (d : ℕ) → d < 16 → hex_value (hex_digit d) ≡ Value d
+value : (d : ℕ) → d < 16 → hex_value (hex_digit d) ≡ Some d
 value d h = go (ltb d 10) refl
   where
-    go : (t : Bool) → ltb d 10 ≡ t → hex_value (cond t (0x30 + d) (0x41 + (d - 10))) ≡ Value d
+    go : (t : Bool) → ltb d 10 ≡ t → hex_value (cond t (0x30 + d) (0x41 + (d - 10))) ≡ Some d
     go true e =
         let low : d < 10 = ltb-true d 10 e in
         let back : 0x30 + d - 0x30 ≡ d = omega arith in
-        value_digit (0x30 + d) (within 0x30 0x39 (0x30 + d) (omega arith) (omega arith)) ∙ ap Value back
+        value_digit (0x30 + d) (within 0x30 0x39 (0x30 + d) (omega arith) (omega arith)) ∙ ap Some back
     go false e =
         let high : 10 ≤ d = ltb-false d 10 e in
         let back : 0x41 + (d - 10) - 0x41 + 10 ≡ d = omega arith in
         value_letter (0x41 + (d - 10)) (above 0x30 0x39 (0x41 + (d - 10)) (omega arith)) (within 0x41 0x46 (0x41 + (d - 10)) (omega arith) (omega arith))
-        ∙ ap Value back
+        ∙ ap Some back
 
-digit : (b d : ℕ) → hex_value b ≡ Value d → (d < 16) × (hex_digit d ≡ b)
+digit : (b d : ℕ) → hex_value b ≡ Some d → (d < 16) × (hex_digit d ≡ b)
 digit b d e = go (is_digit b) (is_from 0x41 0x46 b) refl refl
   where
     go : (s t : Bool) → is_digit b ≡ s → is_from 0x41 0x46 b ≡ t → (d < 16) × (hex_digit d ≡ b)
@@ -53,24 +53,23 @@ digit b d e = go (is_digit b) (is_from 0x41 0x46 b) refl refl
         let high : 10 ≤ d = omega (arith, is) in
         (omega (arith, is, in_range.0, in_range.1), rw (le-ltb d 10 high) (omega (arith, is, in_range.0)))
     go false false f g =
-        let same : NotHex ≡ Value d = sym (value_none b f g) ∙ e in
-        let z : ◌≡◌ {A = ℕ} 0 1 = cc in
-        absurd (omega arith)
+        let same : None ≡ Some d = sym (value_none b f g) ∙ e in
+        cc
 
-some : (b : ℕ) → is_hex_digit b ≡ true → (d : ℕ) × (hex_value b ≡ Value d)
+some : (b : ℕ) → is_hex_digit b ≡ true → (d : ℕ) × (hex_value b ≡ Some d)
 some b e = go (is_digit b) (is_from 0x41 0x46 b) refl refl e
   where
-    go : (s t : Bool) → is_digit b ≡ s → is_from 0x41 0x46 b ≡ t → s || t ≡ true → (d : ℕ) × (hex_value b ≡ Value d)
+    go : (s t : Bool) → is_digit b ≡ s → is_from 0x41 0x46 b ≡ t → s || t ≡ true → (d : ℕ) × (hex_value b ≡ Some d)
     go true t f g h = (b - 0x30, value_digit b f)
     go false true f g h = (b - 0x41 + 10, value_letter b f g)
-    go false false f g h = let z : ◌≡◌ {A = ℕ} 0 1 = cc in absurd (omega arith)
+    go false false f g h = cc
 
-none : (b : ℕ) → is_hex_digit b ≡ false → hex_value b ≡ NotHex
+none : (b : ℕ) → is_hex_digit b ≡ false → hex_value b ≡ None
 none b e = go (is_digit b) (is_from 0x41 0x46 b) refl refl e
   where
-    go : (s t : Bool) → is_digit b ≡ s → is_from 0x41 0x46 b ≡ t → s || t ≡ false → hex_value b ≡ NotHex
-    go true t f g h = let z : ◌≡◌ {A = ℕ} 0 1 = cc in absurd (omega arith)
-    go false true f g h = let z : ◌≡◌ {A = ℕ} 0 1 = cc in absurd (omega arith)
+    go : (s t : Bool) → is_digit b ≡ s → is_from 0x41 0x46 b ≡ t → s || t ≡ false → hex_value b ≡ None
+    go true t f g h = cc
+    go false true f g h = cc
     go false false f g h = value_none b f g
 
 byte : (b : ℕ) → b < 256 → hex_read (hex_digit (b / 16)) (hex_digit (b % 16)) ≡ b

@@ -2,7 +2,6 @@
 use mathlib.Core.Path.{◌≡◌, refl}
 use mathlib.Core.Bool.{true, false}
 use mathlib.Core.List.{◌++◌}
-use Prim.Native.Nat.{ℕ}
 use native.Mathlib.Omega.{arith}
 use lib.Dec.{T}
 use lib.IntN.{ℤ, pos, negsuc, nat_abs, ◌-ℤ◌}
@@ -33,7 +32,7 @@ pub itself : (z : ℤ) → SFits w32 z → lt_z z (pos 0) ≡ false → T (non_n
 itself (pos n) fits e =
     let h = fits.sfits in
     (tt, record { fits = omega arith })
-itself (negsuc n) fits e = let z : ◌≡◌ {A = ℕ} 0 1 = cc in absurd (omega arith)
+itself (negsuc n) fits e = cc
 
 pub minus_text : (z : ℤ) → lt_z z (pos 0) ≡ true → letters "-" ++ decimal (nat_abs z) ≡ integer z
 minus_text (pos n) e = absurd (omega (arith, ltb-true n 0 e))
@@ -41,4 +40,4 @@ minus_text (negsuc n) e = refl
 
 pub plain_text : (z : ℤ) → lt_z z (pos 0) ≡ false → decimal (nat_abs z) ≡ integer z
 plain_text (pos n) e = refl
-plain_text (negsuc n) e = let z : ◌≡◌ {A = ℕ} 0 1 = cc in absurd (omega arith)
+plain_text (negsuc n) e = cc

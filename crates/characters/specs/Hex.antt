@@ -1,8 +1,6 @@
 -- Document 01, 'Bench frames': "code and answer two hex digits".
-use Rattle.std.specs.Prelude.{ℕ, ◌+◌, ◌-◌, ◌*◌, ◌/◌, ◌%◌, cond, List, [], ◌∷◌, ltb}
+use Rattle.std.specs.Prelude.{ℕ, ◌+◌, ◌-◌, ◌*◌, ◌/◌, ◌%◌, cond, List, [], ◌∷◌, ltb, None, Option, Some}
 use Rattle.characters.specs.Class.{is_from, is_digit}
-use Rattle.characters.specs.declared.hex.HexValue.{HexValue}
-use Rattle.characters.specs.declared.hex.HexValue.TheVariants.{Value, NotHex}
 
 -- the digit of a value below 16; 41 hex is the letter A
 abbrev pub hex_digit : ℕ → ℕ
@@ -13,12 +11,12 @@ abbrev pub hex_byte : ℕ → List ℕ
 hex_byte b = hex_digit (b / 16) ∷ hex_digit (b % 16) ∷ []
 
 -- what a character counts as a hex digit
-unfoldable pub hex_value : ℕ → HexValue
-hex_value b = cond (is_digit b) (Value (b - 0x30)) (cond (is_from 0x41 0x46 b) (Value (b - 0x41 + 10)) NotHex)
+unfoldable pub hex_value : ℕ → Option ℕ
+hex_value b = cond (is_digit b) (Some (b - 0x30)) (cond (is_from 0x41 0x46 b) (Some (b - 0x41 + 10)) None)
 
-abbrev pub hex_count : HexValue → ℕ
-hex_count (Value d) = d
-hex_count NotHex = 0
+abbrev pub hex_count : Option ℕ → ℕ
+hex_count (Some d) = d
+hex_count None = 0
 
 -- two digits read back: sixteen times the first's value and the second's
 abbrev pub hex_read : ℕ → ℕ → ℕ

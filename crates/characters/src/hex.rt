@@ -3,28 +3,19 @@ ghost use Rattle.std.specs.Prelude.{◌≡◌, [], ◌%◌};
 ghost use Rattle.lent.specs.Written.{write_answered, write_left};
 ghost use Rattle.characters.specs.Hex.{hex_value, hex_digit, hex_byte};
 
-use crate::class::{is_digit, is_from};
-use lent::written::{Written, lacks_room};
+use lent::written::lacks_room;
+use refusals::refusal::Refusal;
 
-// What a character counts as a hex digit, where it is one.
-#[derive(Clone, Copy)]
-pub enum HexValue {
-    Value(u8),
-    NotHex,
-}
-
-// The value of a hex digit; the letters are capitals.
-#[tactic(auto, using(crate::proofs::Classes::bounds, crate::proofs::Hexes::value_digit, crate::proofs::Hexes::value_letter, crate::proofs::Hexes::value_none))]
-pub fn hex_value(byte: u8) -> HexValue
+// The value of a hex digit, of which the letters are capitals; none for any other character.
+#[tactic(auto, unfolding(crate::specs::Class::is_from, crate::specs::Hex::hex_value))]
+pub fn hex_value(byte: u8) -> Option<u8>
     ensures { result ≡ hex_value byte }
 {
-    if is_digit(byte) {
-        return HexValue::Value(byte - b'0');
+    match byte {
+        b'0'..=b'9' => Some(byte - b'0'),
+        b'A'..=b'F' => Some(byte - b'A' + 10),
+        _ => None,
     }
-    if is_from(b'A', b'F', byte) {
-        return HexValue::Value(byte - b'A' + 10);
-    }
-    HexValue::NotHex
 }
 
 // The hex digit of a value's low four bits. A `match` that gives one number an arm is a constant table.
@@ -53,14 +44,14 @@ pub fn hex_digit(value: u8) -> u8
 
 // Writes a byte as two hex digits; 9 where there is no room for them, and then the buffer is as it was.
 #[tactic(auto, using(lent::proofs::Room::room_within, crate::proofs::Rooms::refused, crate::proofs::Rooms::written))]
-pub fn write_hex(buf: &mut [u8], at: usize, byte: u8) -> Written
+pub fn write_hex(buf: &mut [u8], at: usize, byte: u8) -> Result<usize, Refusal>
     ensures answers { result ≡ write_answered [] buf.old at (hex_byte byte) }
     ensures leaves { buf.new ≡ write_left [] buf.old at (hex_byte byte) }
 {
     if lacks_room(buf.len(), at, 2) {
-        return Written::Refused(9);
+        return Err(Refusal::NoRoom);
     }
     buf[at] = hex_digit(byte / 16);
     buf[at + 1] = hex_digit(byte % 16);
-    Written::Bytes(2)
+    Ok(2)
 }

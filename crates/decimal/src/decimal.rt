@@ -6,28 +6,29 @@ ghost use Rattle.characters.specs.Letters.{letters};
 ghost use Rattle.characters.specs.Decimal.{decimal, integer};
 ghost use Rattle.characters.specs.Computed.{last_digits};
 
-use lent::written::{Written, lacks_room};
+use lent::written::lacks_room;
+use refusals::refusal::Refusal;
 
 // Writes a number's decimal digits; 9 where there is no room for them, and then the buffer is as it was.
 #[tactic(auto, using(lent::proofs::Room::room_within, characters::proofs::Digits::decimal_last, characters::proofs::Rooms::refused, characters::proofs::Rooms::written))]
-pub fn write_decimal(buf: &mut [u8], at: usize, number: u32) -> Written
+pub fn write_decimal(buf: &mut [u8], at: usize, number: u32) -> Result<usize, Refusal>
     ensures answers { result ≡ write_answered [] buf.old at (decimal number) }
     ensures leaves { buf.new ≡ write_left [] buf.old at (decimal number) }
 {
     let count = digits_of(number);
     if lacks_room(buf.len(), at, count) {
-        return Written::Refused(9);
+        return Err(Refusal::NoRoom);
     }
     put_digits(buf, at, number, count);
-    Written::Bytes(count)
+    Ok(count)
 }
 
 // Writes a number that may be below zero, and then with a minus sign; 9 where there is no room.
-pub fn write_integer(buf: &mut [u8], at: usize, number: i32) -> Written
+pub fn write_integer(buf: &mut [u8], at: usize, number: i32) -> Result<usize, Refusal>
     ensures answers { result ≡ write_answered [] buf.old at (integer number) }
     ensures leaves { buf.new ≡ write_left [] buf.old at (integer number) }
 {
-    let size = size_of(number);
+    let size = number.unsigned_abs();
     if number < 0 {
         return write_minus(buf, at, size);
     }
@@ -36,52 +37,36 @@ pub fn write_integer(buf: &mut [u8], at: usize, number: i32) -> Written
 
 // A minus sign, and a number's digits behind it.
 #[tactic(auto, unfolding(characters::specs::Letters::letters), using(lent::proofs::Placed::placed_both, lent::proofs::Room::room_within, characters::proofs::Digits::decimal_last, characters::proofs::Digits::decimal_most, characters::proofs::Rooms::refused, characters::proofs::Rooms::written))]
-fn write_minus(buf: &mut [u8], at: usize, size: u32) -> Written
+fn write_minus(buf: &mut [u8], at: usize, size: u32) -> Result<usize, Refusal>
     ensures answers { result ≡ write_answered [] buf.old at (letters "-" ++ decimal size) }
     ensures leaves { buf.new ≡ write_left [] buf.old at (letters "-" ++ decimal size) }
 {
     let count = digits_of(size);
     let length = count + 1;
     if lacks_room(buf.len(), at, length) {
-        return Written::Refused(9);
+        return Err(Refusal::NoRoom);
     }
     buf[at] = b'-';
     put_digits(buf, at + 1, size, count);
-    Written::Bytes(length)
+    Ok(length)
 }
 
 // How many digits a number has.
 fn digits_of(number: u32) -> usize
     ensures { result ≡ length (decimal number) }
 {
-    if number < 10 {
-        return 1;
+    match number {
+        0..=9 => 1,
+        10..=99 => 2,
+        100..=999 => 3,
+        1_000..=9_999 => 4,
+        10_000..=99_999 => 5,
+        100_000..=999_999 => 6,
+        1_000_000..=9_999_999 => 7,
+        10_000_000..=99_999_999 => 8,
+        100_000_000..=999_999_999 => 9,
+        _ => 10,
     }
-    if number < 100 {
-        return 2;
-    }
-    if number < 1000 {
-        return 3;
-    }
-    if number < 10000 {
-        return 4;
-    }
-    if number < 100000 {
-        return 5;
-    }
-    if number < 1000000 {
-        return 6;
-    }
-    if number < 10000000 {
-        return 7;
-    }
-    if number < 100000000 {
-        return 8;
-    }
-    if number < 1000000000 {
-        return 9;
-    }
-    10
 }
 
 // The last digits of a number, so many, from the last to the first.
@@ -90,21 +75,9 @@ fn put_digits(buf: &mut [u8], at: usize, number: u32, count: usize)
     requires { at + count ≤ length buf.old }
     ensures { buf.new ≡ placed buf.old at (last_digits count number) }
 {
-    let mut i = count;
     let mut rest = number;
-    while 0 < i {
-        i -= 1;
+    for i in (0..count).rev() {
         buf[at + i] = b'0' + (rest % 10) as u8;
-        rest = rest / 10;
+        rest /= 10;
     }
-}
-
-// A number without its sign. The wider type is for the least number, which has no counterpart.
-fn size_of(number: i32) -> u32
-    ensures { result ≡ nat_abs number }
-{
-    if number < 0 {
-        return (0 - number as i64) as u32;
-    }
-    number as u32
 }

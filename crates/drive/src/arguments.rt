@@ -1,149 +1,140 @@
-// The word of a line and the bytes that its arguments are.
-use crate::out::put_byte;
-use characters::hex::{HexValue, hex_value};
-use lent::part::bytes_at;
+// The bytes that a line's arguments are.
+ghost use Rattle.std.specs.Prelude.{◌<◌};
+
+use characters::hex::hex_value;
+use fields::fields::Fields;
+use frame::direction::Direction;
+use refusals::refusal::{Fault, Refusal};
+use row::profile::Profile;
+use sheet::line::Line;
 
 // A line's word and 13 arguments.
 const WORDS: usize = 14;
 
-// No digit waits for its second.
-const NO_DIGIT: u8 = 16;
-
-// What is taken of a line: how many words have ended, where the bytes of each end, how many bytes there are so far, and
-// the digit that waits for its second.
+// The arguments' bytes, one behind another, where the bytes of each word end, and how many words there are. The line's own
+// word is the first, and has no bytes.
 #[derive(Clone, Copy)]
-pub(crate) struct Taken {
-    pub(crate) count: usize,
-    pub(crate) ends: [usize; 14],
+pub(crate) struct Arguments<'a> {
+    space: &'a [u8],
+    ends: [usize; WORDS],
+    count: usize,
+}
+
+// What is decoded so far: the words that have ended, how many bytes there are, and the digit that waits for its second.
+#[derive(Drop)]
+struct Decoded {
+    ends: [usize; WORDS],
+    count: usize,
     at: usize,
-    digit: u8,
+    digit: Option<u8>,
 }
 
-// A character of the space that a line is in; a space behind its end.
-pub(crate) fn letter(line: &[u8], place: usize) -> u8 {
-    if place >= line.len() {
-        return b' ';
-    }
-    line[place]
-}
-
-// The word that a line begins with, its letters as a number; 0, which is no operation, where it has more than 8 or one of
-// them is 0.
-pub(crate) fn word(line: &[u8], count: usize) -> u64 {
-    let mut word = 0;
-    for i in 0..count {
-        let letter = letter(line, i);
-        if letter == b' ' {
-            return word;
+impl Decoded {
+    // A hex digit; two are a byte, which takes the place of characters that were decoded before.
+    fn take_digit(&mut self, digit: u8, space: &mut [u8]) {
+        let Some(first) = self.digit else {
+            self.digit = Some(digit);
+            return;
+        };
+        self.digit = None;
+        if self.at < space.len() {
+            space[self.at] = first << 4 | digit;
+            self.at += 1;
         }
-        if letter == 0 {
-            return 0;
+    }
+
+    // A word ends; one too many is not kept.
+    fn end_word(&mut self) {
+        self.digit = None;
+        if self.count < WORDS {
+            self.ends[self.count] = self.at;
+            self.count += 1;
         }
-        if i == 8 {
-            return 0;
+    }
+}
+
+impl<'a> Arguments<'a> {
+    // Decodes what is behind a line's word in its own space, from the start on: the bytes take half of their characters. A
+    // character that is no hex digit is passed over.
+    pub(crate) fn decoded(space: &'a mut [u8]) -> Arguments<'a> {
+        let mut decoded = Decoded {
+            ends: [0; WORDS],
+            count: 0,
+            at: 0,
+            digit: None,
+        };
+        // by place, since the bytes are written where characters were read
+        for i in 0..space.len() {
+            let letter = space[i];
+            if letter == b' ' {
+                decoded.end_word();
+            } else if let Some(digit) = hex_value(letter.to_ascii_uppercase()) {
+                decoded.take_digit(digit, space);
+            }
         }
-        word = longer(word, letter);
+        decoded.end_word();
+        Arguments {
+            space,
+            ends: decoded.ends,
+            count: decoded.count,
+        }
     }
-    word
-}
 
-// Decodes the arguments of a line of that many characters in its own space, from its start on: their bytes take half
-// of their characters.
-pub(crate) fn decoded(line: &mut [u8], count: usize) -> Taken {
-    let mut taken = Taken {
-        count: 0,
-        ends: [0; 14],
-        at: 0,
-        digit: NO_DIGIT,
-    };
-    for i in 0..count {
-        let letter = letter(line, i);
-        taken = with_letter(taken, letter, line);
+    // How many words the line has, its own and the arguments.
+    pub(crate) fn count(&self) -> usize {
+        self.count
     }
-    ended(taken)
-}
 
-// One character more; one that is no hex digit is passed over.
-fn with_letter(before: Taken, letter: u8, line: &mut [u8]) -> Taken {
-    if letter == b' ' {
-        return ended(before);
+    // The bytes of an argument, the first at 1; none where it is not there.
+    pub(crate) fn bytes(&self, place: usize) -> &'a [u8] {
+        if place == 0 || place >= WORDS {
+            return &[];
+        }
+        self.space
+            .get(self.ends[place - 1]..self.ends[place])
+            .unwrap_or(&[])
     }
-    if before.count == 0 {
-        return before;
-    }
-    match hex_value(capital(letter)) {
-        HexValue::Value(value) => with_digit(before, value, line),
-        HexValue::NotHex => before,
-    }
-}
 
-fn with_digit(before: Taken, value: u8, line: &mut [u8]) -> Taken {
-    let mut next = before;
-    if before.digit == NO_DIGIT {
-        next.digit = value;
-        return next;
+    // An argument as a number, the most significant byte first; of a longer one the last 8.
+    pub(crate) fn number(&self, place: usize) -> u64 {
+        self.bytes(place)
+            .iter()
+            .fold(0, |number: u64, byte| number << 8 | u64::from(*byte))
     }
-    next.at = put_byte(line, before.at, before.digit % 16 * 16 + value % 16);
-    next.digit = NO_DIGIT;
-    next
-}
 
-// A word ends; one too many is not kept.
-fn ended(before: Taken) -> Taken {
-    let mut next = before;
-    next.digit = NO_DIGIT;
-    let count = before.count;
-    if count >= WORDS {
-        return next;
+    // The last two bytes of an argument.
+    pub(crate) fn short(&self, place: usize) -> u16 {
+        (self.number(place) % 65536) as u16
     }
-    next.ends[count] = before.at;
-    next.count = count + 1;
-    next
-}
 
-// A small hex letter as its capital; any other character as it is.
-fn capital(letter: u8) -> u8 {
-    if letter < b'a' {
-        return letter;
+    // The last byte of an argument; 0 where it has none.
+    pub(crate) fn byte(&self, place: usize) -> u8 {
+        (self.number(place) % 256) as u8
     }
-    if letter > b'f' {
-        return letter;
-    }
-    letter - b'a' + b'A'
-}
 
-// The bytes of an argument, the first at 1; none where it is not there.
-pub(crate) fn argument(space: &[u8], ends: [usize; 14], place: usize) -> &[u8] {
-    if place == 0 {
-        return &space[..0];
+    // A direction by its letter.
+    pub(crate) fn direction(&self, place: usize) -> Result<Direction, Refusal> {
+        Direction::try_from(self.byte(place))
     }
-    if place >= WORDS {
-        return &space[..0];
-    }
-    let start = ends[place - 1];
-    let end = ends[place];
-    if end < start {
-        return &space[..0];
-    }
-    bytes_at(space, start, end - start)
-}
 
-// An argument as a number, the most significant byte first; of a longer one the last 8.
-pub(crate) fn number(space: &[u8], ends: [usize; 14], place: usize) -> u64 {
-    let bytes = argument(space, ends, place);
-    let mut number = 0;
-    for i in 0..bytes.len() {
-        number = longer(number, bytes[i]);
+    // The profile by its letter, which is the first argument.
+    pub(crate) fn profile(&self) -> Result<Profile, Refusal> {
+        Profile::try_from(self.byte(1))
     }
-    number
-}
 
-// The last byte of an argument; 0 where it has none.
-pub(crate) fn byte(space: &[u8], ends: [usize; 14], place: usize) -> u8 {
-    (number(space, ends, place) % 256) as u8
-}
+    // The same, for an operation on a sheet, whose refusals have a place.
+    pub(crate) fn sheet_profile(&self) -> Result<Profile, Fault> {
+        Ok(self.profile()?)
+    }
 
-// A number with one byte more behind it; its first of 8 goes.
-fn longer(number: u64, byte: u8) -> u64 {
-    std::num::wrapping_add_u64(number % 0x100000000000000 * 256, byte as u64)
+    // Zone, command and answer code, from a place on.
+    pub(crate) fn fields(&self, place: usize) -> Fields
+        requires { place < 14 }
+    {
+        Fields {
+            zone: self.byte(place),
+            command: self.byte(place + 1),
+            answer: self.byte(place + 2),
+        }
+    }
 }

@@ -1,119 +1,66 @@
 // Sheet files, sign-offs and cells; and how sheets' answers are said.
-use crate::arguments::{argument, byte};
-use crate::out::{Output, say, say_buffer, say_byte, say_byte_after, say_counted};
-use crate::{names, out};
-use sheet::check::Verdict;
-use sheet::line::Line;
-use sheet::sheet::SHEET_LIMIT;
-use sheetfile::file::FileRead;
-use sheetfile::write::SheetWritten;
-use signing::by_letter::CaptureCell;
-use signing::sign::Signed;
+use crate::arguments::Arguments;
+use crate::out::{Output, Stop};
+use sheet::sheet::Sheet;
+use sheetfile_code::by_letter::check_file;
+use sheetfile_code::file::read_file_by_letter;
+use signing_code::by_letter::{cell_in_capture, sign_file};
 use std::io;
+use std::io::Write;
+use tracker::tracker::Kept;
 
-// An operation on sheet files that writes nothing, and on trackers.
-pub(crate) fn operate(
-    out: &mut Output,
-    operation: usize,
-    space: &[u8],
-    ends: [usize; 14],
-) -> io::Result<()> {
-    let letter = byte(space, ends, 1);
-    let bytes = argument(space, ends, 2);
-    if operation == names::CHECK {
-        return check(out, letter, bytes);
-    }
-    if operation == names::SIGN {
-        return sign(out, letter, bytes, argument(space, ends, 3));
-    }
-    cell(
-        out,
-        letter,
-        bytes,
-        byte(space, ends, 3),
-        byte(space, ends, 4),
-    )
+// The lines of a sheet file.
+pub(crate) fn check(out: &mut Output, arguments: &Arguments) -> Result<(), Stop> {
+    let letter = arguments.byte(1);
+    let file = arguments.bytes(2);
+    check_file(letter, file)?;
+    say_sheet(out, read_file_by_letter(letter, file)?)?;
+    Ok(())
 }
 
-// A refusal and its place.
-pub(crate) fn say_refused(out: &mut Output, number: u8, place: usize) -> io::Result<()> {
-    out::say_refused(out, number)?;
-    say_counted(out, b" at ", place as u64)
-}
-
-fn check(out: &mut Output, letter: u8, file: &[u8]) -> io::Result<()> {
-    match sheetfile_code::by_letter::check_file(letter, file) {
-        Verdict::Accepted => {
-            say_sheet(out, sheetfile_code::file::read_file_by_letter(letter, file))
-        }
-        Verdict::Refused(number, place) => say_refused(out, number, place),
+fn say_sheet(out: &mut Output, sheet: Sheet) -> io::Result<()> {
+    write!(out, "accepted {} :", sheet.count)?;
+    if sheet.count == 0 {
+        return write!(out, " -");
     }
-}
-
-fn say_sheet(out: &mut Output, read: FileRead) -> io::Result<()> {
-    let sheet = read.sheet;
-    let lines = sheet.lines;
-    say_lines(out, lines, sheet.count)
-}
-
-fn say_lines(out: &mut Output, lines: [Line; SHEET_LIMIT], count: usize) -> io::Result<()> {
-    say_counted(out, b"accepted ", count as u64)?;
-    if count == 0 {
-        return say_buffer(out, &[]);
-    }
-    say(out, b" :")?;
-    for i in 0..SHEET_LIMIT {
-        let line = lines[i];
-        say_line(out, line, i < count)?;
+    for line in sheet.lines.iter().take(sheet.count) {
+        write!(out, " {:02X}{:02X}", line.zone, line.command)?;
+        write!(out, "{:02X}", line.value)?;
     }
     Ok(())
 }
 
-// A line of the sheet; those behind its count are not its own.
-fn say_line(out: &mut Output, line: Line, own: bool) -> io::Result<()> {
-    if own {
-        say_byte_after(out, line.zone)?;
-        say_byte(out, line.command)?;
-        say_byte(out, line.value)?;
-    }
+// A sheet file signed off by a capture.
+pub(crate) fn sign(out: &mut Output, arguments: &Arguments) -> Result<(), Stop> {
+    let signed = sign_file(arguments.byte(1), arguments.bytes(2), arguments.bytes(3))?;
+    say_signed(out, signed)?;
     Ok(())
 }
 
-pub(crate) fn say_written(out: &mut Output, written: SheetWritten, buf: &[u8]) -> io::Result<()> {
-    match written {
-        SheetWritten::Bytes(count) => {
-            say_counted(out, b"bytes ", count as u64)?;
-        }
-        SheetWritten::Refused(number, place) => {
-            say_refused(out, number, place)?;
-        }
+pub(crate) fn say_signed(out: &mut Output, signed: bool) -> io::Result<()> {
+    if !signed {
+        write!(out, "not ")?;
     }
-    say_buffer(out, buf)
+    write!(out, "signed")
 }
 
-fn sign(out: &mut Output, letter: u8, file: &[u8], capture: &[u8]) -> io::Result<()> {
-    say_signed(
-        out,
-        signing_code::by_letter::sign_file(letter, file, capture),
-    )
+// What is known of a cell after a capture.
+pub(crate) fn cell(out: &mut Output, arguments: &Arguments) -> Result<(), Stop> {
+    let capture = arguments.bytes(2);
+    let kept = cell_in_capture(
+        arguments.byte(1),
+        capture,
+        arguments.byte(3),
+        arguments.byte(4),
+    )?;
+    say_kept(out, kept)?;
+    Ok(())
 }
 
-pub(crate) fn say_signed(out: &mut Output, signed: Signed) -> io::Result<()> {
-    match signed {
-        Signed::Yes => say(out, b"signed"),
-        Signed::No => say(out, b"not signed"),
-        Signed::Refused(number, place) => say_refused(out, number, place),
-    }
-}
-
-fn cell(out: &mut Output, letter: u8, capture: &[u8], zone: u8, command: u8) -> io::Result<()> {
-    match signing_code::by_letter::cell_in_capture(letter, capture, zone, command) {
-        CaptureCell::Value(value) => {
-            say(out, b"value")?;
-            say_byte_after(out, value)
-        }
-        CaptureCell::Unknown => say(out, b"unknown"),
-        CaptureCell::NoCell => say(out, b"no cell"),
-        CaptureCell::Refused(number) => out::say_refused(out, number),
+pub(crate) fn say_kept(out: &mut Output, kept: Kept) -> io::Result<()> {
+    match kept {
+        Kept::Value(value) => write!(out, "value {value:02X}"),
+        Kept::Unknown => write!(out, "unknown"),
+        Kept::NoCell => write!(out, "no cell"),
     }
 }

@@ -1,162 +1,141 @@
 // Every message of a small space.
+use crate::arguments::Arguments;
 use crate::messages::{say_content, say_reading};
-use crate::out::{
-    Output, say, say_after, say_byte, say_byte_after, say_bytes, say_counted, say_letter,
-};
+use crate::out::{Output, Stop, say_bytes};
+use fields::fields::Fields;
 use frame::direction::Direction;
-use message::read::{Message, Reading};
+use message::read::Message;
 use message_read::read::read_message;
+use refusals::refusal::Refusal;
 use row::profile::Profile;
 use std::io;
+use std::io::Write;
 
-const BYTES: u16 = 256;
+// The refusals that reading gives.
+const REFUSALS: [Refusal; 6] = [
+    Refusal::WrongZone,
+    Refusal::NoRow,
+    Refusal::WrongLength,
+    Refusal::WrongValue,
+    Refusal::WrongAnswer,
+    Refusal::NoStep,
+];
 
-const PAIRS: u32 = 65536;
-
-const MESSAGES: u32 = 16777216;
-
-// How many messages were accepted, at 0, and how many got each refusal, at its number.
-#[derive(Clone, Copy)]
-pub(crate) struct Counts {
-    of: [u64; 14],
+// How many messages were accepted, and how many got each refusal, in the order of REFUSALS.
+#[derive(Drop)]
+struct Counts {
+    accepted: u64,
+    refused: [u64; REFUSALS.len()],
 }
 
-fn none() -> Counts {
-    Counts { of: [0; 14] }
+impl Counts {
+    fn none() -> Counts {
+        Counts {
+            accepted: 0,
+            refused: [0; REFUSALS.len()],
+        }
+    }
+
+    // One message: counted, and said where it is accepted.
+    fn count(
+        &mut self,
+        out: &mut Output,
+        profile: Profile,
+        direction: Direction,
+        fields: Fields,
+        body: &[u8],
+    ) -> io::Result<()> {
+        match read_message(profile, direction, fields, body) {
+            Ok(message) => {
+                self.accepted = self.accepted.wrapping_add(1);
+                say_accepted(out, fields, body, message)
+            }
+            Err(refusal) => {
+                for (count, counted) in self.refused.iter_mut().zip(REFUSALS) {
+                    if counted == refusal {
+                        *count = count.wrapping_add(1);
+                    }
+                }
+                Ok(())
+            }
+        }
+    }
+
+    fn say(&self, out: &mut Output) -> io::Result<()> {
+        write!(out, "accepted {} refused", self.accepted)?;
+        for (count, counted) in self.refused.iter().zip(REFUSALS) {
+            write!(out, " {}:{count}", counted.number())?;
+        }
+        Ok(())
+    }
+}
+
+fn say_accepted(out: &mut Output, fields: Fields, body: &[u8], message: Message) -> io::Result<()> {
+    write!(out, "{:02X} {:02X} ", fields.zone, fields.command)?;
+    say_bytes(out, body)?;
+    write!(out, " ")?;
+    match message {
+        Message::Command(said) | Message::Status(said) => say_content(out, said.content)?,
+        Message::Denied(_) => write!(out, "denied")?,
+    }
+    writeln!(out)
 }
 
 // Every zone, command and data byte.
-pub(crate) fn all(out: &mut Output, profile: Profile, direction: Direction) -> io::Result<()> {
-    let mut counts = none();
-    for place in 0..MESSAGES {
-        let zone = (place / 65536) as u8;
-        let command = (place / 256 % 256) as u8;
-        counts = count_one(
-            out,
-            profile,
-            direction,
-            zone,
-            command,
-            &[(place % 256) as u8],
-            counts,
-        )?;
-    }
-    say_counts(out, counts)
-}
-
-// Every data of two bytes of S 0F in zone 1.
-pub(crate) fn pairs(out: &mut Output, direction: Direction) -> io::Result<()> {
-    let mut counts = none();
-    for place in 0..PAIRS {
-        let body = [(place / 256) as u8, (place % 256) as u8];
-        counts = count_one(out, Profile::S, direction, 1, 0x0F, &body, counts)?;
-    }
-    say_counts(out, counts)
-}
-
-// One message: counted, and said where it is accepted.
-fn count_one(
-    out: &mut Output,
-    profile: Profile,
-    direction: Direction,
-    zone: u8,
-    command: u8,
-    body: &[u8],
-    counts: Counts,
-) -> io::Result<Counts> {
-    match read_message(profile, direction, zone, command, 0, body) {
-        Reading::Message(message) => {
-            say_accepted(out, zone, command, body, message)?;
-            Ok(counted_as(counts, 0))
+pub(crate) fn all(out: &mut Output, arguments: &Arguments) -> Result<(), Stop> {
+    let profile = arguments.profile()?;
+    let direction = arguments.direction(2)?;
+    let mut counts = Counts::none();
+    for zone in 0..=u8::MAX {
+        for command in 0..=u8::MAX {
+            let fields = Fields {
+                zone,
+                command,
+                answer: 0,
+            };
+            for value in 0..=u8::MAX {
+                counts.count(out, profile, direction, fields, &[value])?;
+            }
         }
-        Reading::Refused(number) => Ok(counted_as(counts, number)),
     }
-}
-
-fn counted_as(counts: Counts, number: u8) -> Counts {
-    let mut next = counts;
-    let place = number as usize;
-    if place < 14 {
-        next.of[place] = std::num::wrapping_add_u64(counts.of[place], 1);
-    }
-    next
-}
-
-fn say_accepted(
-    out: &mut Output,
-    zone: u8,
-    command: u8,
-    body: &[u8],
-    message: Message,
-) -> io::Result<()> {
-    say_byte(out, zone)?;
-    say_byte_after(out, command)?;
-    say_letter(out, b' ')?;
-    say_bytes(out, body)?;
-    say_letter(out, b' ')?;
-    say_message_content(out, message)?;
-    say_letter(out, b'\n')
-}
-
-fn say_message_content(out: &mut Output, message: Message) -> io::Result<()> {
-    match message {
-        Message::Command(said) => {
-            let content = said.content;
-            say_content(out, content)
-        }
-        Message::Status(said) => {
-            let content = said.content;
-            say_content(out, content)
-        }
-        Message::Denied(_) => say(out, b"denied"),
-    }
-}
-
-fn say_counts(out: &mut Output, counts: Counts) -> io::Result<()> {
-    say_counted(out, b"accepted ", counts.of[0])?;
-    say(out, b" refused")?;
-    say_count(out, 1, counts.of[1])?;
-    say_count(out, 2, counts.of[2])?;
-    say_count(out, 3, counts.of[3])?;
-    say_count(out, 4, counts.of[4])?;
-    say_count(out, 5, counts.of[5])?;
-    say_count(out, 13, counts.of[13])
-}
-
-// How many got a refusal.
-fn say_count(out: &mut Output, refusal: u64, count: u64) -> io::Result<()> {
-    say_after(out, b' ', refusal)?;
-    say_after(out, b':', count)
-}
-
-// An answer with every answer code, a line each.
-pub(crate) fn codes(
-    out: &mut Output,
-    profile: Profile,
-    zone: u8,
-    command: u8,
-    body: &[u8],
-) -> io::Result<()> {
-    for code in 0..BYTES {
-        one_code(out, profile, zone, command, code as u8, body)?;
-    }
+    counts.say(out)?;
     Ok(())
 }
 
-fn one_code(
-    out: &mut Output,
-    profile: Profile,
-    zone: u8,
-    command: u8,
-    code: u8,
-    body: &[u8],
-) -> io::Result<()> {
-    let reading = read_message(profile, Direction::Answer, zone, command, code, body);
-    say_byte(out, code)?;
-    say_letter(out, b' ')?;
-    say_reading(out, reading, body)?;
-    if code != 255 {
-        say_letter(out, b'\n')?;
+// Every data of two bytes of S 0F in zone 1.
+pub(crate) fn pairs(out: &mut Output, arguments: &Arguments) -> Result<(), Stop> {
+    let direction = arguments.direction(1)?;
+    let fields = Fields {
+        zone: 1,
+        command: 0x0F,
+        answer: 0,
+    };
+    let mut counts = Counts::none();
+    for first in 0..=u8::MAX {
+        for second in 0..=u8::MAX {
+            counts.count(out, Profile::S, direction, fields, &[first, second])?;
+        }
+    }
+    counts.say(out)?;
+    Ok(())
+}
+
+// An answer with every answer code, a line each.
+pub(crate) fn codes(out: &mut Output, arguments: &Arguments) -> Result<(), Stop> {
+    let profile = arguments.profile()?;
+    let body = arguments.bytes(4);
+    for answer in 0..=u8::MAX {
+        let fields = Fields {
+            zone: arguments.byte(2),
+            command: arguments.byte(3),
+            answer,
+        };
+        if answer > 0 {
+            writeln!(out)?;
+        }
+        write!(out, "{answer:02X} ")?;
+        let reading = read_message(profile, Direction::Answer, fields, body);
+        say_reading(out, reading, body)?;
     }
     Ok(())
 }

@@ -1,51 +1,42 @@
 // The listing, whole and in pieces.
-use crate::arguments::{argument, number};
-use crate::names;
-use crate::out::{Output, say};
-use crate::writes::shorter;
+use crate::arguments::Arguments;
+use crate::out::Output;
+use lent::part::bytes_at;
 use listing_code::piece::list_piece;
-use listing_pieces::piece::{Piece, Place};
+use listing_pieces::piece::Place;
 use std::io;
+use std::io::Write;
 
 // More than any listing has rows.
 const PIECES: u32 = 100000;
 
-// The listing, or the same through a buffer of a given length.
-pub(crate) fn operate(
-    out: &mut Output,
-    operation: usize,
-    space: &[u8],
-    ends: [usize; 14],
-) -> io::Result<()> {
-    let mut room = [0u8; 4096];
-    if operation == names::LISTING {
-        return listing(out, argument(space, ends, 1), &mut room);
-    }
-    let length = shorter(number(space, ends, 1));
-    pieces(out, argument(space, ends, 2), &mut room, length)
+// The most that a buffer has.
+const ROOM: usize = 4096;
+
+// The listing.
+pub(crate) fn listing(out: &mut Output, arguments: &Arguments) -> io::Result<()> {
+    list(out, arguments.bytes(1), &mut [0; ROOM])
 }
 
-fn pieces(out: &mut Output, input: &[u8], room: &mut [u8], length: usize) -> io::Result<()> {
-    if length > room.len() {
-        return Ok(());
-    }
-    let skip = room.len() - length;
-    listing(out, input, &mut room[skip..])
+// The same through a buffer of a given length.
+pub(crate) fn pieces(out: &mut Output, arguments: &Arguments) -> io::Result<()> {
+    let length = arguments.number(1).min(ROOM as u64) as usize;
+    list(out, arguments.bytes(2), &mut [0; ROOM][..length])
 }
 
-// The listing through a lent buffer, all its lines.
-fn listing(out: &mut Output, input: &[u8], buf: &mut [u8]) -> io::Result<()> {
+// All its lines, through a lent buffer.
+fn list(out: &mut Output, input: &[u8], buf: &mut [u8]) -> io::Result<()> {
     let mut place = Place::Start;
-    for turn in 0..PIECES {
-        let answer = list_piece(input, place, buf);
-        let Piece::Text(count, behind) = answer else {
-            return say(out, b"refused 9\n");
+    for _ in 0..PIECES {
+        let piece = match list_piece(input, place, buf) {
+            Ok(piece) => piece,
+            Err(refusal) => return writeln!(out, "{refusal}"),
         };
-        if count == 0 {
-            return Ok(());
+        if piece.length == 0 {
+            break;
         }
-        say(out, lent::part::bytes_at(buf, 0, count))?;
-        place = behind;
+        out.write_all(bytes_at(buf, 0, piece.length))?;
+        place = piece.next;
     }
     Ok(())
 }

@@ -1,217 +1,144 @@
 // Operations that write into a buffer of a given length, all AA before.
-use crate::arguments::{argument, byte, number};
-use crate::messages::{content, say_written, signed};
-use crate::out::Output;
-use crate::{doors, names, sheets};
+ghost use Rattle.std.specs.Prelude.{◌<◌};
+
+use crate::arguments::Arguments;
+use crate::doors::lines_of;
+use crate::out::{Output, Stop, say_buffer};
+use characters::hex::write_hex;
+use decimal::decimal::write_decimal;
 use fields::raw::write_raw;
-use frame::direction::{Direction, NamedDirection};
-use lent::written::Written;
+use lending::sheets::{write_run_lent, write_sheet_file_lent};
+use message::content::Content;
 use message::read::{Denial, Message, Said};
 use message_write::write::{write_fields, write_message};
-use row::profile::{NamedProfile, Profile};
-use sheetfile::write::SheetWritten;
-use std::io;
+use sheetfile_code::by_letter::{copy_file, run_of_file};
+use std::fmt::Display;
+use std::io::Write;
 
-pub(crate) fn operate(
+// The most that a buffer has.
+const ROOM: usize = 4096;
+
+// Writes into a buffer whose length is the argument at a place, from the place in it that the next one is, and says the
+// answer and the buffer.
+fn written<E: Display + Drop, W: FnOnce(&mut [u8], usize) -> Result<usize, E>>(
     out: &mut Output,
-    operation: usize,
-    space: &[u8],
-    ends: [usize; 14],
-) -> io::Result<()> {
-    let mut room = [0xAAu8; 4096];
-    let place = length_place(operation);
-    let length = shorter(number(space, ends, place));
-    let spot = number(space, ends, std::num::wrapping_add_usize(place, 1)) as usize;
-    if is_sheet(operation) {
-        return sheet_written(out, operation, space, ends, &mut room, length, spot);
+    arguments: &Arguments,
+    place: usize,
+    write: W,
+) -> Result<(), Stop>
+    requires counted { place < 14 }
+    requires callable { W.IsAlwaysCallable write }
+{
+    let mut room = [0xAAu8; ROOM];
+    let length = arguments.number(place).min(ROOM as u64) as usize;
+    let buf = &mut room[ROOM - length..];
+    match write(buf, arguments.number(place + 1) as usize) {
+        Ok(count) => write!(out, "bytes {count}")?,
+        Err(refused) => write!(out, "{refused}")?,
     }
-    written(out, operation, space, ends, &mut room, length, spot)
+    say_buffer(out, buf)?;
+    Ok(())
 }
 
-// Writes into the last bytes of the room, and says them.
-fn written(
-    out: &mut Output,
-    operation: usize,
-    space: &[u8],
-    ends: [usize; 14],
-    room: &mut [u8],
-    length: usize,
-    spot: usize,
-) -> io::Result<()> {
-    if length > room.len() {
-        return Ok(());
-    }
-    let skip = room.len() - length;
-    let written = write(operation, space, ends, &mut room[skip..], spot);
-    say_written(out, written, lent::part::last_bytes(room, length))
+pub(crate) fn decimal(out: &mut Output, arguments: &Arguments) -> Result<(), Stop> {
+    written(out, arguments, 1, |buf, at| {
+        write_decimal(buf, at, u32::from(arguments.short(3)))
+    })
 }
 
-// The same of a sheet file.
-fn sheet_written(
-    out: &mut Output,
-    operation: usize,
-    space: &[u8],
-    ends: [usize; 14],
-    room: &mut [u8],
-    length: usize,
-    spot: usize,
-) -> io::Result<()> {
-    if length > room.len() {
-        return Ok(());
-    }
-    let skip = room.len() - length;
-    let written = write_sheet(operation, space, ends, &mut room[skip..], spot);
-    sheets::say_written(out, written, lent::part::last_bytes(room, length))
+pub(crate) fn hex(out: &mut Output, arguments: &Arguments) -> Result<(), Stop> {
+    written(out, arguments, 1, |buf, at| {
+        write_hex(buf, at, arguments.byte(3))
+    })
 }
 
-// A length of at most the room's.
-pub(crate) fn shorter(length: u64) -> usize {
-    if length > 4096 {
-        return 4096;
-    }
-    length as usize
+pub(crate) fn raw(out: &mut Output, arguments: &Arguments) -> Result<(), Stop> {
+    written(out, arguments, 2, |buf, at| {
+        let direction = arguments.direction(1)?;
+        write_raw(direction, arguments.fields(4), arguments.bytes(7), buf, at)
+    })
 }
 
-// Which argument the length is.
-fn length_place(operation: usize) -> usize {
-    if operation == names::DECIMAL {
-        return 1;
-    }
-    if operation == names::HEX {
-        return 1;
-    }
-    if operation == names::SEND {
-        return 3;
-    }
-    2
+pub(crate) fn message(out: &mut Output, arguments: &Arguments) -> Result<(), Stop> {
+    written(out, arguments, 2, |buf, at| {
+        let profile = arguments.profile()?;
+        write_message(profile, buf, at, message_of(arguments), arguments.bytes(11))
+    })
 }
 
-// Those that write sheets stand together.
-fn is_sheet(operation: usize) -> bool {
-    if operation < names::COPY {
-        return false;
-    }
-    operation <= names::DOORRUN
+pub(crate) fn fields(out: &mut Output, arguments: &Arguments) -> Result<(), Stop> {
+    written(out, arguments, 3, |buf, at| {
+        let profile = arguments.profile()?;
+        let direction = arguments.direction(2)?;
+        write_fields(
+            profile,
+            direction,
+            arguments.fields(5),
+            arguments.bytes(8),
+            buf,
+            at,
+        )
+    })
 }
 
-fn write_sheet(
-    operation: usize,
-    space: &[u8],
-    ends: [usize; 14],
-    buf: &mut [u8],
-    spot: usize,
-) -> SheetWritten {
-    let letter = byte(space, ends, 1);
-    let bytes = argument(space, ends, 4);
-    if operation == names::COPY {
-        return sheetfile_code::by_letter::copy_file(letter, bytes, buf, spot);
-    }
-    if operation == names::RUN {
-        return sheetfile_code::by_letter::run_of_file(letter, bytes, buf, spot);
-    }
-    doors::written(operation, letter, bytes, buf, spot)
+pub(crate) fn file(out: &mut Output, arguments: &Arguments) -> Result<(), Stop> {
+    written(out, arguments, 2, |buf, at| {
+        copy_file(arguments.byte(1), arguments.bytes(4), buf, at)
+    })
 }
 
-fn write(
-    operation: usize,
-    space: &[u8],
-    ends: [usize; 14],
-    buf: &mut [u8],
-    spot: usize,
-) -> Written {
-    if operation == names::DECIMAL {
-        return decimal::decimal::write_decimal(buf, spot, (number(space, ends, 3) % 65536) as u32);
-    }
-    if operation == names::HEX {
-        return characters::hex::write_hex(buf, spot, byte(space, ends, 3));
-    }
-    if operation == names::RAW {
-        return raw(space, ends, buf, spot);
-    }
-    match row::profile::profile_of(byte(space, ends, 1)) {
-        NamedProfile::Profile(profile) => { profiled(operation, profile, space, ends, buf, spot) }
-        NamedProfile::Refused(number) => Written::Refused(number),
-    }
+pub(crate) fn run(out: &mut Output, arguments: &Arguments) -> Result<(), Stop> {
+    written(out, arguments, 2, |buf, at| {
+        run_of_file(arguments.byte(1), arguments.bytes(4), buf, at)
+    })
 }
 
-fn raw(space: &[u8], ends: [usize; 14], buf: &mut [u8], spot: usize) -> Written {
-    match frame::direction::direction_of(byte(space, ends, 1)) {
-        NamedDirection::Direction(direction) => {
-            let body = argument(space, ends, 7);
-            write_raw(
-                direction,
-                buf,
-                spot,
-                byte(space, ends, 4),
-                byte(space, ends, 5),
-                byte(space, ends, 6),
-                body,
-            )
-        }
-        NamedDirection::Refused(number) => Written::Refused(number),
-    }
+// The file of a list of lines.
+pub(crate) fn door_file(out: &mut Output, arguments: &Arguments) -> Result<(), Stop> {
+    written(out, arguments, 2, |buf, at| {
+        let profile = arguments.sheet_profile()?;
+        write_sheet_file_lent(profile, lines_of(arguments.bytes(4)), buf, at)
+    })
 }
 
-fn profiled(
-    operation: usize,
-    profile: Profile,
-    space: &[u8],
-    ends: [usize; 14],
-    buf: &mut [u8],
-    spot: usize,
-) -> Written {
-    if operation == names::WRITE {
-        let body = argument(space, ends, 11);
-        let message = message_of(space, ends);
-        return write_message(profile, buf, spot, message, body);
-    }
-    match frame::direction::direction_of(byte(space, ends, 2)) {
-        NamedDirection::Direction(direction) => { send(profile, direction, space, ends, buf, spot) }
-        NamedDirection::Refused(number) => Written::Refused(number),
-    }
-}
-
-fn send(
-    profile: Profile,
-    direction: Direction,
-    space: &[u8],
-    ends: [usize; 14],
-    buf: &mut [u8],
-    spot: usize,
-) -> Written {
-    let body = argument(space, ends, 8);
-    let zone = byte(space, ends, 5);
-    let command = byte(space, ends, 6);
-    let answer = byte(space, ends, 7);
-    write_fields(profile, direction, buf, spot, zone, command, answer, body)
+// The run of a list of lines.
+pub(crate) fn door_run(out: &mut Output, arguments: &Arguments) -> Result<(), Stop> {
+    written(out, arguments, 2, |buf, at| {
+        let profile = arguments.sheet_profile()?;
+        write_run_lent(profile, lines_of(arguments.bytes(4)), buf, at)
+    })
 }
 
 // A message by its kind and form, as tests/README.md numbers them.
-fn message_of(space: &[u8], ends: [usize; 14]) -> Message {
-    let kind = byte(space, ends, 4);
-    let zone = byte(space, ends, 5);
-    let command = byte(space, ends, 6);
-    if kind == b'D' {
-        return Message::Denied(Denial {
-            zone: zone,
-            command: command,
-            answer: byte(space, ends, 7),
-        });
-    }
-    let value = number(space, ends, 9) % 65536;
-    let says = content(
-        byte(space, ends, 8),
-        signed(value as u16),
-        (value % 256) as u8,
-        byte(space, ends, 10) != 0,
-    );
+fn message_of(arguments: &Arguments) -> Message {
+    let fields = arguments.fields(5);
     let said = Said {
-        zone: zone,
-        command: command,
-        content: says,
+        zone: fields.zone,
+        command: fields.command,
+        content: content_of(arguments),
     };
-    if kind == b'C' {
-        return Message::Command(said);
+    match arguments.byte(4) {
+        b'D' => Message::Denied(Denial {
+            zone: fields.zone,
+            command: fields.command,
+            answer: fields.answer,
+        }),
+        b'C' => Message::Command(said),
+        _ => Message::Status(said),
     }
-    Message::Status(said)
+}
+
+// What a message to be written says.
+fn content_of(arguments: &Arguments) -> Content {
+    match arguments.byte(8) {
+        0 => Content::Request,
+        1 => Content::Up,
+        2 => Content::Down,
+        3 => Content::On,
+        4 => Content::Off,
+        5 => Content::Toggle,
+        6 => Content::LevellerOff,
+        7 => Content::Number(arguments.short(9).cast_signed()),
+        _ => Content::Input(arguments.byte(9), arguments.byte(10) != 0),
+    }
 }

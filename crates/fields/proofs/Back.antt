@@ -26,8 +26,6 @@ use Rattle.frame.specs.declared.reader.ByteAnswer.TheVariants as answer
 use Rattle.frame.specs.declared.capture.Kind.{Kind}
 use Rattle.frame.specs.declared.capture.Kind.TheVariants as kind
 use Rattle.frame.specs.declared.capture.Event.{Event}
-use Rattle.frame.specs.declared.capture.Next.TheVariants as next
-use Rattle.lent.specs.declared.written.Written.TheVariants as written
 use Rattle.frame.proofs.Cases.{cases}
 use Rattle.frame.proofs.Header.{header_least, frame_length_lem}
 use Rattle.frame.proofs.Taken.{fills, taken_outside, taken_end}
@@ -38,6 +36,7 @@ use Rattle.lent.proofs.Placed.{placed_length, placed_there}
 use Rattle.fields.proofs.Again.{frame_is, frame_fields, frame_data, data_length, frame_again}
 use Rattle.fields.proofs.Live.{live_frame}
 use Rattle.streams.specs.Stream.{answers_by, reader_by}
+use Rattle.std.specs.Prelude.{None, Ok, Some}
 
 -- all of a frame but its first byte and its last
 middle : Direction → ℕ → ℕ → ℕ → List ℕ → List ℕ
@@ -126,13 +125,13 @@ module _ (dir : Direction) (buf : List ℕ) (at zone command code : ℕ) (body :
   abbrev frame : List ℕ
   frame = frame_of dir zone command code body
 
-  pub placed_found : first_of (events_from dir (placed buf at frame) at) ≡ next.Event (event at (length frame) kind.Frame)
+  pub placed_found : first_of (events_from dir (placed buf at frame) at) ≡ Some (event at (length frame) kind.Frame)
   unfolding events_from
   placed_found =
       let there : drop at (placed buf at frame) ≡ frame ++ drop (at + length frame) buf =
       drop_at (take at buf) (frame ++ drop (at + length frame) buf) at (length-take-le at buf (omega arith)) in
       ap first_of (ap (λ (l : List ℕ). events_on dir at [] l) there ∙ frame_event dir zone command code body at (drop (at + length frame) buf))
-      ∙ ap (λ (m : ℕ). next.Event (event at m kind.Frame)) (sym (frame_length_lem dir zone command code body))
+      ∙ ap (λ (m : ℕ). Some (event at m kind.Frame)) (sym (frame_length_lem dir zone command code body))
 
   pub placed_bytes_lem : bytes_at (placed buf at frame) at (length frame) ≡ frame
   unfolding bytes_at
@@ -140,7 +139,7 @@ module _ (dir : Direction) (buf : List ℕ) (at zone command code : ℕ) (body :
       rw (placed_length buf at frame room, le-leb (at + length frame) (length buf) room) (placed_there buf at frame room)
 
 module _ (dir : Direction) (buf : List ℕ) (at zone command code : ℕ) (body : List ℕ) (n : ℕ)
-    (e : write_answered (raw_rules body) buf at (frame_of dir zone command code body) ≡ written.Bytes n) where
+    (e : write_answered (raw_rules body) buf at (frame_of dir zone command code body) ≡ Ok n) where
   abbrev sent : List ℕ
   sent = frame_of dir zone command code body
 
@@ -156,7 +155,7 @@ module _ (dir : Direction) (buf : List ℕ) (at zone command code : ℕ) (body :
   long_as : n ≡ length sent
   long_as = ((write_promise (raw_rules body) buf at sent).there n e).0
 
-  raw_found : first_of (events_from dir left at) ≡ next.Event (event at n kind.Frame)
+  raw_found : first_of (events_from dir left at) ≡ Some (event at n kind.Frame)
   raw_found = rw (is_placed, long_as) (placed_found dir buf at zone command code body fits)
 
   raw_brings : Brings dir (bytes_at left at n) zone command code body
@@ -202,10 +201,10 @@ module _ (dir : Direction) (capture : List ℕ) (at n : ℕ) (within : at < leng
       (λ h. other (end + 1) kind.Broken (λ z. omega arith)))))
       (λ e. other 1 kind.Noise (λ z. omega arith))
 
-  framed_there : first_of (events_from dir capture at) ≡ next.Event (event at n kind.Frame) → (at + n ≤ length capture) × Whole dir (take n (drop at capture))
+  framed_there : first_of (events_from dir capture at) ≡ Some (event at n kind.Frame) → (at + n ≤ length capture) × Whole dir (take n (drop at capture))
   unfolding Framed
   framed_there e =
-      let here : next.Event (stretch_at (header dir) capture at) ≡ next.Event (event at n kind.Frame) = sym (ap first_of (events_here dir capture at within)) ∙ e in
+      let here : Some (stretch_at (header dir) capture at) ≡ Some (event at n kind.Frame) = sym (ap first_of (events_here dir capture at within)) ∙ e in
       framed (cc)
 
 written_again : (dir : Direction) (bytes : List ℕ) → is_frame dir bytes ≡ true → (buf : List ℕ) (at : ℕ) → dl dir bytes ≤ data_limit → at + length bytes ≤ length buf
@@ -225,15 +224,14 @@ again dir bytes e = record {
   written = λ buf at small room. written_again dir bytes e buf at small room;
 }
 
-captured : (dir : Direction) (capture : List ℕ) (at n : ℕ) → first_of (events_from dir capture at) ≡ next.Event (event at n kind.Frame) → Again dir (bytes_at capture at n)
+captured : (dir : Direction) (capture : List ℕ) (at n : ℕ) → first_of (events_from dir capture at) ≡ Some (event at n kind.Frame) → Again dir (bytes_at capture at n)
 unfolding bytes_at
 captured dir capture at n e = go (leb (length capture) at) refl
   where
     go : (t : Bool) → leb (length capture) at ≡ t → Again dir (bytes_at capture at n)
     go true f =
-        let none : next.End ≡ next.Event (event at n kind.Frame) = sym (ap first_of (events_end dir capture at (leb-true _ _ f))) ∙ e in
-        let z : ◌≡◌ {A = ℕ} 0 1 = cc in
-        absurd (omega arith)
+        let none : None ≡ Some (event at n kind.Frame) = sym (ap first_of (events_end dir capture at (leb-true _ _ f))) ∙ e in
+        cc
     go false f =
         let w = framed_there dir capture at n (leb-false _ _ f) e in
         rw (le-leb (at + n) (length capture) w.0) (again dir (take n (drop at capture)) (whole_is dir (take n (drop at capture)) w.1))

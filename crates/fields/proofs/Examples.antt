@@ -15,11 +15,10 @@ use Rattle.lent.specs.Written.{lacks_room, write_answered, write_left}
 use Rattle.frame.specs.declared.direction.Direction.TheVariants.{Command, Answer}
 use Rattle.frame.specs.declared.reader.ByteAnswer.TheVariants as answer
 use Rattle.frame.specs.declared.capture.Kind.TheVariants.{Frame, Broken, Noise, Pending}
-use Rattle.frame.specs.declared.capture.Counted.TheVariants as counted
-use Rattle.fields.specs.declared.fields.Brought.TheVariants as brought
-use Rattle.lent.specs.declared.written.Written.TheVariants as written
 use Rattle.streams.specs.Stream.{answers_by, reader_by}
 use Rattle.lists.specs.InOrder.{in_order}
+use Rattle.std.specs.Prelude.{Err, Ok, Some}
+use Rattle.refusals.specs.declared.refusal.Refusal.TheVariants.{NoRoom, WrongLength}
 
 -- the capture of document 01's listing
 abbrev listed : List ℕ
@@ -29,7 +28,7 @@ pub listed_events : events_from Answer listed 0 ≡ event 0 1 Noise ∷ event 1 
 unfolding events_from events_told answers_by reader_by answer_to taken_after
 listed_events = refl
 
-pub listed_totals : counted_of Answer listed ≡ counted.Totals (record { frame = 7; broken = 6; noise = 1; pending = 1 })
+pub listed_totals : counted_of Answer listed ≡ Ok (record { frame = 7; broken = 6; noise = 1; pending = 1 })
 unfolding labels in_order count answers_by reader_by answer_to taken_after
 listed_totals = refl
 
@@ -70,7 +69,7 @@ unfolding answers_by reader_by fed_at count in_order
 counted_in_three = refl
 
 -- a raw answer with two data bytes, at place 1 of nine bytes: written, and found there
-pub raw_written : write_answered (raw_rules (0x06 ∷ 0x01 ∷ [])) (replicate 9 7) 1 (frame_of Answer 0x01 0x0F 0x00 (0x06 ∷ 0x01 ∷ [])) ≡ written.Bytes 8
+pub raw_written : write_answered (raw_rules (0x06 ∷ 0x01 ∷ [])) (replicate 9 7) 1 (frame_of Answer 0x01 0x0F 0x00 (0x06 ∷ 0x01 ∷ [])) ≡ Ok 8
 unfolding write_answered lacks_room frame_of
 raw_written = refl
 
@@ -78,15 +77,15 @@ pub raw_bytes : write_left (raw_rules (0x06 ∷ 0x01 ∷ [])) (replicate 9 7) 1 
 unfolding write_left lacks_room frame_of
 raw_bytes = refl
 
-pub raw_no_room : write_answered (raw_rules (0x06 ∷ 0x01 ∷ [])) (replicate 9 7) 2 (frame_of Answer 0x01 0x0F 0x00 (0x06 ∷ 0x01 ∷ [])) ≡ written.Refused 9
+pub raw_no_room : write_answered (raw_rules (0x06 ∷ 0x01 ∷ [])) (replicate 9 7) 2 (frame_of Answer 0x01 0x0F 0x00 (0x06 ∷ 0x01 ∷ [])) ≡ Err NoRoom
 unfolding write_answered lacks_room frame_of
 raw_no_room = refl
 
-pub raw_too_long : write_answered (raw_rules (replicate 256 0)) [] 1 (frame_of Answer 0x01 0x0F 0x00 (replicate 256 0)) ≡ written.Refused 3
+pub raw_too_long : write_answered (raw_rules (replicate 256 0)) [] 1 (frame_of Answer 0x01 0x0F 0x00 (replicate 256 0)) ≡ Err WrongLength
 unfolding write_answered lacks_room frame_of
 raw_too_long = refl
 
-pub fields_found : fields_of Answer (0x21 ∷ 0x01 ∷ 0x0F ∷ 0x00 ∷ 0x02 ∷ 0x06 ∷ 0x01 ∷ 0x0D ∷ []) ≡ brought.Frame (record { zone = 1; command = 0x0F; answer = 0 })
+pub fields_found : fields_of Answer (0x21 ∷ 0x01 ∷ 0x0F ∷ 0x00 ∷ 0x02 ∷ 0x06 ∷ 0x01 ∷ 0x0D ∷ []) ≡ Some (record { zone = 1; command = 0x0F; answer = 0 })
 unfolding is_frame
 fields_found = refl
 

@@ -1,11 +1,9 @@
 -- Document 01, 'Refusal numbers': "the zone, command, answer code and data that a frame brings".
-use Rattle.std.specs.Prelude.{ℕ, ◌-◌, Bool, ◌&&◌, cond, List, [], eqb, length, get_or, take, drop}
+use Rattle.std.specs.Prelude.{ℕ, ◌-◌, Bool, ◌&&◌, cond, List, [], eqb, length, get_or, take, drop, None, Option, Some}
 use Rattle.frame.specs.Frame.{opens, ends, header, frame_length, dl}
 use Rattle.frame.specs.declared.direction.Direction.{Direction}
 use Rattle.frame.specs.declared.direction.Direction.TheVariants.{Command, Answer}
 use Rattle.fields.specs.declared.fields.Fields.{Fields}
-use Rattle.fields.specs.declared.fields.Brought.{Brought}
-use Rattle.fields.specs.declared.fields.Brought.TheVariants as brought
 
 -- "Command: 21 Zn Cc Dl data 0D. Answer: 21 Zn Cc Ac Dl data 0D.": one whole frame has 21 first, as many bytes as Dl says, and 0D last
 unfoldable pub is_frame : Direction → List ℕ → Bool
@@ -31,8 +29,8 @@ abbrev pub data_in : Direction → List ℕ → List ℕ
 data_in dir bytes = take (dl dir bytes) (drop (header dir) bytes)
 
 -- what a frame brings; bytes that are not one whole frame bring nothing
-abbrev pub fields_of : Direction → List ℕ → Brought
-fields_of dir bytes = cond (is_frame dir bytes) (brought.Frame (fields_in dir bytes)) brought.NotOneFrame
+abbrev pub fields_of : Direction → List ℕ → Option Fields
+fields_of dir bytes = cond (is_frame dir bytes) (Some (fields_in dir bytes)) None
 
 abbrev pub data_of : Direction → List ℕ → List ℕ
 data_of dir bytes = cond (is_frame dir bytes) (data_in dir bytes) []

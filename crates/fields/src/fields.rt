@@ -6,28 +6,21 @@ use frame::direction::Direction;
 use frame::reader::Reader;
 
 // What a frame brings beside its data. A command has no answer code: 0 stands for it.
-#[derive(Clone, Copy)]
+#[derive(Clone, Copy, Debug, PartialEq, Eq)]
 pub struct Fields {
     pub zone: u8,
     pub command: u8,
     pub answer: u8,
 }
 
-// What bytes bring: the fields of the one frame that they are, or nothing.
-#[derive(Clone, Copy)]
-pub enum Brought {
-    Frame(Fields),
-    NotOneFrame,
-}
-
-// The zone, command and answer code of the bytes of one whole frame.
-pub fn frame_fields(direction: Direction, bytes: &[u8]) -> Brought
+// The zone, command and answer code of the bytes of one whole frame; other bytes have none.
+pub fn frame_fields(direction: Direction, bytes: &[u8]) -> Option<Fields>
     ensures { result ≡ fields_of direction bytes.now }
 {
     if !is_frame(direction, bytes) {
-        return Brought::NotOneFrame;
+        return None;
     }
-    Brought::Frame(Fields {
+    Some(Fields {
         zone: bytes[1],
         command: bytes[2],
         answer: answer_code(direction, bytes),
@@ -40,7 +33,7 @@ pub fn frame_data(direction: Direction, bytes: &[u8]) -> &[u8]
     ensures { result.now ≡ data_of direction bytes.now }
 {
     if !is_frame(direction, bytes) {
-        return &bytes[..0];
+        return &[];
     }
     let header = Reader::header(direction) as usize;
     let end = bytes.len() - 1;
@@ -53,17 +46,10 @@ fn is_frame(direction: Direction, bytes: &[u8]) -> bool
     ensures { result ≡ is_frame direction bytes.now }
 {
     let header = Reader::header(direction) as usize;
-    if bytes.len() <= header {
-        return false;
-    }
-    let count = bytes[header - 1] as usize;
-    if bytes.len() != header + count + 1 {
-        return false;
-    }
-    if bytes[0] != Reader::OPENS {
-        return false;
-    }
-    bytes[bytes.len() - 1] == Reader::ENDS
+    bytes.len() > header
+        && bytes.len() == header + bytes[header - 1] as usize + 1
+        && bytes[0] == Reader::OPENS
+        && bytes[bytes.len() - 1] == Reader::ENDS
 }
 
 // The answer code among the bytes of a frame; a command has none.

@@ -9,22 +9,22 @@ use Rattle.frame.specs.Letter.{direction_of}
 use Rattle.frame.specs.Capture.{capture_limit, counted_by}
 use Rattle.frame.specs.Numbers.{letter_number, counted_number, counted_totals, no_totals}
 use Rattle.frame.specs.CaptureRefusalPromise.{CaptureRefusalPromise}
-use Rattle.frame.specs.declared.direction.NamedDirection.{NamedDirection}
-use Rattle.frame.specs.declared.direction.NamedDirection.TheVariants as named
-use Rattle.frame.specs.declared.capture.Counted.{Counted}
-use Rattle.frame.specs.declared.capture.Counted.TheVariants as counted
+use Rattle.std.specs.Prelude.{Err, Ok, Result}
+use Rattle.refusals.specs.declared.refusal.Refusal.{Refusal}
+use Rattle.frame.specs.declared.direction.Direction.{Direction}
+use Rattle.frame.specs.declared.capture.Totals.{Totals}
 
-zeros : (c : Counted) → (counted_number c ≡ 0 → ⊥) → counted_totals c ≡ no_totals
-zeros (counted.Totals t) refused = absurd (refused refl)
-zeros (counted.Refused n) refused = refl
+zeros : (c : Result Totals Refusal) → (counted_number c ≡ 0 → ⊥) → counted_totals c ≡ no_totals
+zeros (Ok t) refused = absurd (refused refl)
+zeros (Err e) refused = refl
 
 other_letter : (l : ℕ) → (l ≡ 0x43 → ⊥) → (l ≡ 0x52 → ⊥) → letter_number (direction_of l) ≡ 12
 unfolding direction_of
 other_letter l c r = rw (ne_eqb l 0x43 c, ne_eqb l 0x52 r)
 
-letter_first : (n : NamedDirection) (capture : List ℕ) → letter_number n ≡ 12 → counted_number (counted_by n capture) ≡ 12
-letter_first (named.Direction dir) capture e = absurd (omega (arith, e))
-letter_first (named.Refused n) capture e = e
+letter_first : (n : Result Direction Refusal) (capture : List ℕ) → letter_number n ≡ 12 → counted_number (counted_by n capture) ≡ 12
+letter_first (Ok dir) capture e = absurd (omega (arith, e))
+letter_first (Err e) capture f = f
 
 pub capture_refusal_promise : CaptureRefusalPromise
 unfolding direction_of

@@ -9,6 +9,7 @@ use lib.ListN.{length, get_or, replicate}
 use Rattle.frame.specs.Frame.{header, opens}
 use Rattle.frame.specs.Reader.{answers, taken_by}
 use Rattle.frame.specs.Capture.{settled, labels, count, totals_of, event, events_told, events_from, spread}
+use Rattle.frame.specs.Numbers.{no_totals}
 use Rattle.frame.specs.Computed.{stretch_at, with_event, with_noise}
 use Rattle.frame.specs.declared.direction.Direction.{Direction}
 use Rattle.frame.specs.declared.reader.ByteAnswer.{ByteAnswer}
@@ -63,9 +64,6 @@ events_add t (e ∷ es) =
     events_add (with_event t e.length e.kind) es
     ∙ ap (λ (u : Totals). Counts u (spread es)) (event_adds t e.length e.kind)
     ∙ simp (count_append, add_assoc)
-
-abbrev pub no_totals : Totals
-no_totals = record { frame = 0; broken = 0; noise = 0; pending = 0 }
 
 pub totals_whole : (dir : Direction) (capture : List ℕ) → totals_from no_totals (events_from dir capture 0) ≡ totals_of dir capture
 totals_whole dir capture = events_add no_totals (events_from dir capture 0) ∙ rw (← labels_spread dir capture) (simp zero-add)

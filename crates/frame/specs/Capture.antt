@@ -1,13 +1,11 @@
 -- Document 01, 'The frame and its reader': "In a capture of at most 60,000 bytes, every byte belongs to exactly one of
 -- frame, broken, noise, pending; the four totals are those of this rule."
-use Rattle.std.specs.Prelude.{ℕ, zero, suc, ◌+◌, List, [], ◌∷◌, ◌++◌, eqb, ltb, length, drop, replicate, cond}
+use Rattle.std.specs.Prelude.{ℕ, zero, suc, ◌+◌, List, [], ◌∷◌, ◌++◌, eqb, ltb, length, drop, replicate, cond, Err, None, Ok, Option, Result, Some}
 use Rattle.lists.specs.InOrder.{in_order}
 use Rattle.refusals.specs.Rule.{Rule, rule, ruled}
 use Rattle.frame.specs.Reader.{answers, taken_by}
 use Rattle.frame.specs.KeptReader.{answers_of, reader_after}
 use Rattle.frame.specs.declared.direction.Direction.{Direction}
-use Rattle.frame.specs.declared.direction.NamedDirection.{NamedDirection}
-use Rattle.frame.specs.declared.direction.NamedDirection.TheVariants as named
 use Rattle.frame.specs.declared.reader.ByteAnswer.{ByteAnswer}
 use Rattle.frame.specs.declared.reader.ByteAnswer.TheVariants as answer
 use Rattle.frame.specs.declared.reader.Reader.{Reader}
@@ -15,11 +13,9 @@ use Rattle.frame.specs.declared.part.Part.{Part}
 use Rattle.frame.specs.declared.capture.Kind.{Kind}
 use Rattle.frame.specs.declared.capture.Kind.TheVariants.{Frame, Broken, Noise, Pending}
 use Rattle.frame.specs.declared.capture.Event.{Event}
-use Rattle.frame.specs.declared.capture.Next.{Next}
-use Rattle.frame.specs.declared.capture.Next.TheVariants as next
 use Rattle.frame.specs.declared.capture.Totals.{Totals}
-use Rattle.frame.specs.declared.capture.Counted.{Counted}
-use Rattle.frame.specs.declared.capture.Counted.TheVariants as counted
+use Rattle.refusals.specs.declared.refusal.Refusal.{Refusal}
+use Rattle.refusals.specs.declared.refusal.Refusal.TheVariants.{TooLong}
 
 abbrev pub capture_limit : ℕ
 capture_limit = 60000
@@ -61,15 +57,15 @@ totals_of dir capture = record {
 
 -- 11: "capture over 60,000 bytes", by how many it has
 abbrev pub long_capture : ℕ → Rule
-long_capture count = rule 11 (ltb capture_limit count)
+long_capture count = rule TooLong (ltb capture_limit count)
 
-abbrev pub counted_of : Direction → List ℕ → Counted
-counted_of dir capture = ruled (long_capture (length capture) ∷ []) counted.Refused (counted.Totals (totals_of dir capture))
+abbrev pub counted_of : Direction → List ℕ → Result Totals Refusal
+counted_of dir capture = ruled (long_capture (length capture) ∷ []) Err (Ok (totals_of dir capture))
 
 -- "Order: 12, then 11, before all others."
-abbrev pub counted_by : NamedDirection → List ℕ → Counted
-counted_by (named.Direction dir) capture = counted_of dir capture
-counted_by (named.Refused n) capture = counted.Refused n
+abbrev pub counted_by : Result Direction Refusal → List ℕ → Result Totals Refusal
+counted_by (Ok dir) capture = counted_of dir capture
+counted_by (Err e) capture = Err e
 
 -- a part of a stream, from a given reader: the reader after it, and how many bytes it settled as each kind
 abbrev pub part_of : Reader → List ℕ → Part
@@ -101,9 +97,9 @@ events_from dir capture at =
     events_told at (answers dir [] (drop at capture)) (length (taken_by dir [] (drop at capture)))
 
 -- the first of them
-abbrev pub first_of : List Event → Next
-first_of [] = next.End
-first_of (e ∷ es) = next.Event e
+abbrev pub first_of : List Event → Option Event
+first_of [] = None
+first_of (e ∷ es) = Some e
 
 -- the labels that events give to their bytes
 abbrev pub spread : List Event → List Kind

@@ -7,7 +7,7 @@ use crate::reader::{ByteAnswer, Reader};
 
 // A part of a stream, taken: the reader after it, and how many bytes it settled as each kind. The
 // bytes of an unfinished frame are not settled yet: the reader's `place` counts them.
-#[derive(Clone, Copy)]
+#[derive(Clone, Copy, Debug, PartialEq, Eq)]
 pub struct Part {
     pub reader: Reader,
     pub frame: usize,
@@ -21,53 +21,32 @@ pub fn take_part(reader: Reader, bytes: &[u8]) -> Part
     ensures { result ≡ part_of reader bytes.now }
 {
     let mut part = Part {
-        reader: reader,
+        reader,
         frame: 0,
         broken: 0,
         noise: 0,
     };
-    let mut i = 0;
-    while i < bytes.len() {
-        part = with_byte(part, bytes[i]);
-        i += 1;
+    for &byte in bytes {
+        part = part.with_byte(byte);
     }
     part
 }
 
-// The part with one byte more.
-#[tactic(auto, unfolding(crate::specs::Capture::count), using(crate::proofs::Labels::count_replicate, crate::proofs::Parts::frame_most, crate::proofs::Parts::broken_most))]
-fn with_byte(part: Part, byte: u8) -> Part
-    requires { part.frame + part.broken + part.noise + part.reader.place + 1 < 2 ^ 64 }
-    ensures { result ≡ with_fed part (fed_of part.reader byte) }
-{
-    let before = part.reader;
-    let fed = before.feed(byte);
-    let reader = fed.reader;
-    let answer = fed.answer;
-    match answer {
-        ByteAnswer::Waiting => Part {
-            reader: reader,
-            frame: part.frame,
-            broken: part.broken,
-            noise: part.noise,
-        },
-        ByteAnswer::Noise => Part {
-            reader: reader,
-            frame: part.frame,
-            broken: part.broken,
-            noise: part.noise + 1,
-        },
-        ByteAnswer::Frame(n) => Part {
-            reader: reader,
-            frame: part.frame + n as usize,
-            broken: part.broken,
-            noise: part.noise,
-        },
-        ByteAnswer::Broken(n) => Part {
-            reader: reader,
-            frame: part.frame,
-            broken: part.broken + n as usize,
-            noise: part.noise,
-        },
+impl Part {
+    // The part with one byte more.
+    #[tactic(auto, unfolding(crate::specs::Capture::count), using(crate::proofs::Labels::count_replicate, crate::proofs::Parts::frame_most, crate::proofs::Parts::broken_most))]
+    fn with_byte(mut self, byte: u8) -> Self
+        requires { self.frame + self.broken + self.noise + self.reader.place + 1 < 2 ^ 64 }
+        ensures { result ≡ with_fed self (fed_of self.reader byte) }
+    {
+        let fed = self.reader.feed(byte);
+        self.reader = fed.reader;
+        match fed.answer {
+            ByteAnswer::Waiting => {}
+            ByteAnswer::Noise => self.noise += 1,
+            ByteAnswer::Frame(n) => self.frame += n as usize,
+            ByteAnswer::Broken(n) => self.broken += n as usize,
+        }
+        self
     }
 }

@@ -6,7 +6,7 @@ use crate::direction::Direction;
 
 // The answer to one byte. A frame and a broken stretch come with their length in bytes. The host
 // keeps the bytes: 261 of them are enough for the longest frame.
-#[derive(Clone, Copy)]
+#[derive(Clone, Copy, Debug, PartialEq, Eq)]
 pub enum ByteAnswer {
     Waiting,
     Noise,
@@ -16,7 +16,7 @@ pub enum ByteAnswer {
 
 // A reader for one direction. It keeps no bytes of the frame: `place` is how many are taken (0: it
 // stands outside), and `dl` is Dl, or 0 while Dl is still to come.
-#[derive(Clone, Copy)]
+#[derive(Clone, Copy, Debug, PartialEq, Eq)]
 pub struct Reader {
     pub direction: Direction,
     pub place: u16,
@@ -24,7 +24,7 @@ pub struct Reader {
 }
 
 // The reader after a byte, and the answer to that byte.
-#[derive(Clone, Copy)]
+#[derive(Clone, Copy, Debug, PartialEq, Eq)]
 pub struct Fed {
     pub reader: Reader,
     pub answer: ByteAnswer,
@@ -49,7 +49,7 @@ impl Reader {
         ensures { result ≡ fresh_reader direction }
     {
         Self {
-            direction: direction,
+            direction,
             place: 0,
             dl: 0,
         }
@@ -70,58 +70,45 @@ impl Reader {
     pub fn feed(self, byte: u8) -> Fed
         ensures { result ≡ fed_of self byte }
     {
-        let direction = self.direction;
-        take(
-            direction,
-            Reader::header(direction),
-            self.place,
-            self.dl,
-            byte,
-        )
+        self.take(Reader::header(self.direction), byte)
     }
-}
 
-// One byte by the reader's rule, over the header's length.
-#[tactic(auto, unfolding(crate::specs::KeptReader::fed_at))]
-fn take(direction: Direction, header: u16, place: u16, dl: u8, byte: u8) -> Fed
-    requires { header ≤ 5 }
-    ensures { result ≡ fed_at direction header place dl byte }
-{
-    if place == 0 {
-        if byte == Reader::OPENS {
-            return stands(direction, 1, 0, ByteAnswer::Waiting);
+    // One byte by the reader's rule, over the header's length.
+    #[tactic(auto, unfolding(crate::specs::KeptReader::fed_at))]
+    fn take(self, header: u16, byte: u8) -> Fed
+        requires { header ≤ 5 }
+        ensures { result ≡ fed_at self.direction header self.place self.dl byte }
+    {
+        let place = self.place;
+        if place == 0 {
+            return if byte == Reader::OPENS {
+                self.stands(1, 0, ByteAnswer::Waiting)
+            } else {
+                self.stands(0, 0, ByteAnswer::Noise)
+            };
         }
-        return stands(direction, 0, 0, ByteAnswer::Noise);
-    }
-    if place < header {
-        if place + 1 == header {
-            return stands(direction, place + 1, byte, ByteAnswer::Waiting);
+        if place < header {
+            let dl = if place + 1 == header { byte } else { 0 };
+            return self.stands(place + 1, dl, ByteAnswer::Waiting);
         }
-        return stands(direction, place + 1, 0, ByteAnswer::Waiting);
+        let end = header + self.dl as u16;
+        if place < end {
+            return self.stands(place + 1, self.dl, ByteAnswer::Waiting);
+        }
+        match byte {
+            Reader::ENDS => self.stands(0, 0, ByteAnswer::Frame(end + 1)),
+            Reader::OPENS => self.stands(1, 0, ByteAnswer::Broken(end)),
+            _ => self.stands(0, 0, ByteAnswer::Broken(end + 1)),
+        }
     }
-    let end = header + dl as u16;
-    if place < end {
-        return stands(direction, place + 1, dl, ByteAnswer::Waiting);
-    }
-    if byte == Reader::ENDS {
-        return stands(direction, 0, 0, ByteAnswer::Frame(end + 1));
-    }
-    if byte == Reader::OPENS {
-        return stands(direction, 1, 0, ByteAnswer::Broken(end));
-    }
-    stands(direction, 0, 0, ByteAnswer::Broken(end + 1))
-}
 
-// Where a reader stands after a byte, with the answer to it.
-fn stands(direction: Direction, place: u16, dl: u8, answer: ByteAnswer) -> Fed
-    ensures { result ≡ stood direction place dl answer }
-{
-    Fed {
-        reader: Reader {
-            direction: direction,
-            place: place,
-            dl: dl,
-        },
-        answer: answer,
+    // Where it stands after a byte, with the answer to it.
+    fn stands(self, place: u16, dl: u8, answer: ByteAnswer) -> Fed
+        ensures { result ≡ stood self.direction place dl answer }
+    {
+        Fed {
+            reader: Reader { place, dl, ..self },
+            answer,
+        }
     }
 }

@@ -1,11 +1,12 @@
 ghost use Rattle.std.specs.Prelude.{◌≡◌, ◌+◌, ◌<◌, ◌≤◌, ◌^◌, length};
 ghost use Rattle.frame.specs.Letter.{direction_of};
-ghost use Rattle.frame.specs.Capture.{event, events_from, first_of, totals_of, counted_of, counted_by};
+ghost use Rattle.frame.specs.Capture.{events_from, first_of, totals_of, counted_of, counted_by};
 ghost use Rattle.frame.specs.Computed.{stretch_at, with_event, with_noise};
 
-use frame::capture::{Counted, Event, Kind, Next, Totals};
-use frame::direction::{Direction, NamedDirection, direction_of};
+use frame::capture::{Event, Kind, Totals};
+use frame::direction::Direction;
 use frame::reader::Reader;
+use refusals::refusal::Refusal;
 
 // The longest capture whose bytes are counted.
 pub const CAPTURE_LIMIT: usize = 60000;
@@ -13,33 +14,30 @@ pub const CAPTURE_LIMIT: usize = 60000;
 // The first event that a fresh reader makes of the bytes from a place on. Begin at 0 and go on at
 // each event's end: these are the capture's events. No length is refused here.
 #[tactic(auto, using(frame::proofs::Header::header_most, frame::proofs::Header::header_least, frame::proofs::Events::events_end, frame::proofs::Events::events_here))]
-pub fn next_event(direction: Direction, capture: &[u8], at: usize) -> Next
+pub fn next_event(direction: Direction, capture: &[u8], at: usize) -> Option<Event>
     ensures { result ≡ first_of (events_from direction capture.now at) }
 {
     if capture.len() <= at {
-        return Next::End;
+        return None;
     }
-    Next::Event(stretch(Reader::header(direction) as usize, capture, at))
+    Some(stretch(Reader::header(direction) as usize, capture, at))
 }
 
 // The four totals of a capture; 11 for one over 60,000 bytes.
-pub fn capture_totals(direction: Direction, capture: &[u8]) -> Counted
+pub fn capture_totals(direction: Direction, capture: &[u8]) -> Result<Totals, Refusal>
     ensures { result ≡ counted_of direction capture.now }
 {
     if capture.len() > CAPTURE_LIMIT {
-        return Counted::Refused(11);
+        return Err(Refusal::TooLong);
     }
-    Counted::Totals(count_events(direction, capture))
+    Ok(count_events(direction, capture))
 }
 
 // The same by the direction's letter; 12 for a letter that names none, before 11.
-pub fn capture_totals_by_letter(letter: u8, capture: &[u8]) -> Counted
+pub fn capture_totals_by_letter(letter: u8, capture: &[u8]) -> Result<Totals, Refusal>
     ensures { result ≡ counted_by (direction_of letter) capture.now }
 {
-    match direction_of(letter) {
-        NamedDirection::Direction(direction) => capture_totals(direction, capture),
-        NamedDirection::Refused(number) => Counted::Refused(number),
-    }
+    capture_totals(Direction::try_from(letter)?, capture)
 }
 
 // The totals, event by event. Noise is passed over at once: it is what is left.
@@ -55,16 +53,15 @@ fn count_events(direction: Direction, capture: &[u8]) -> Totals
         pending: 0,
     };
     let mut at = 0;
+    // a `while`, since the place goes on by whole stretches, as no iterator of a slice does
     while at < capture.len() {
         if capture[at] != Reader::OPENS {
             at += 1;
             continue;
         }
-        let next = stretch(header, capture, at);
-        let length = next.length;
-        let kind = next.kind;
-        totals = add_event(totals, length, kind);
-        at += length;
+        let event = stretch(header, capture, at);
+        totals = add_event(totals, event);
+        at += event.length;
     }
     with_noise(totals, capture.len())
 }
@@ -74,32 +71,24 @@ fn with_noise(totals: Totals, count: usize) -> Totals
     requires { totals.frame + totals.broken + totals.pending ≤ count }
     ensures { result ≡ with_noise totals count }
 {
-    let mut all = totals;
-    all.noise = count - totals.frame - totals.broken - totals.pending;
-    all
+    Totals {
+        noise: count - totals.frame - totals.broken - totals.pending,
+        ..totals
+    }
 }
 
 // The totals with the bytes of one event more.
-fn add_event(totals: Totals, length: usize, kind: Kind) -> Totals
-    requires { totals.frame + totals.broken + totals.noise + totals.pending + length < 2 ^ 64 }
-    ensures { result ≡ with_event totals length kind }
+fn add_event(mut totals: Totals, event: Event) -> Totals
+    requires { totals.frame + totals.broken + totals.noise + totals.pending + event.length < 2 ^ 64 }
+    ensures { result ≡ with_event totals event.length event.kind }
 {
-    let mut sum = totals;
-    match kind {
-        Kind::Frame => {
-            sum.frame += length;
-        }
-        Kind::Broken => {
-            sum.broken += length;
-        }
-        Kind::Noise => {
-            sum.noise += length;
-        }
-        Kind::Pending => {
-            sum.pending += length;
-        }
+    match event.kind {
+        Kind::Frame => totals.frame += event.length,
+        Kind::Broken => totals.broken += event.length,
+        Kind::Noise => totals.noise += event.length,
+        Kind::Pending => totals.pending += event.length,
     }
-    sum
+    totals
 }
 
 // The stretch that starts at a place, over the header's length. It jumps over the data: no value
@@ -109,33 +98,27 @@ fn stretch(header: usize, capture: &[u8], at: usize) -> Event
     requires { (0 < header) × (header ≤ 5) × (at < length capture.now) }
     ensures { result ≡ stretch_at header capture.now at }
 {
+    let pending = Event {
+        at,
+        length: capture.len() - at,
+        kind: Kind::Pending,
+    };
     if capture[at] != Reader::OPENS {
-        return found(at, 1, Kind::Noise);
+        return Event {
+            at,
+            length: 1,
+            kind: Kind::Noise,
+        };
     }
-    let left = capture.len() - at;
-    if left < header {
-        return found(at, left, Kind::Pending);
-    }
-    let end = header + capture[at + (header - 1)] as usize;
-    if left <= end {
-        return found(at, left, Kind::Pending);
-    }
-    let last = capture[at + end];
-    if last == Reader::ENDS {
-        return found(at, end + 1, Kind::Frame);
-    }
-    if last == Reader::OPENS {
-        return found(at, end, Kind::Broken);
-    }
-    found(at, end + 1, Kind::Broken)
-}
-
-fn found(at: usize, length: usize, kind: Kind) -> Event
-    ensures { result ≡ event at length kind }
-{
-    Event {
-        at: at,
-        length: length,
-        kind: kind,
-    }
+    let Some(&dl) = capture.get(at + (header - 1)) else {
+        return pending;
+    };
+    let end = header + dl as usize;
+    let (length, kind) = match capture.get(at + end) {
+        None => return pending,
+        Some(&Reader::ENDS) => (end + 1, Kind::Frame),
+        Some(&Reader::OPENS) => (end, Kind::Broken),
+        Some(_) => (end + 1, Kind::Broken),
+    };
+    Event { at, length, kind }
 }

@@ -1,5 +1,5 @@
 -- Lines brought together, one after another.
-use mathlib.Core.Path.{◌≡◌, refl}
+use mathlib.Core.Path.{◌≡◌}
 use mathlib.Core.List.{List}
 use Prim.Native.Nat.{ℕ, ◌+◌, ◌≤◌, ◌<◌}
 use native.Mathlib.Numerals.{add-one}
@@ -8,9 +8,6 @@ use lib.Seq.{drop-cons}
 use Rattle.sheet.specs.Sheet.{with_line, with_all}
 use Rattle.sheet.specs.declared.line.Line.{Line}
 use Rattle.sheet.specs.declared.sheet.Sheet.{Sheet}
-
-pub fold_start : (s : Sheet) (ls : List Line) → with_all s ls ≡ with_all s (drop 0 ls)
-fold_start s ls = refl
 
 pub fold_more : (s : Sheet) (ls : List Line) (i : ℕ) (d : Line) → i < length ls → with_all s (drop i ls) ≡ with_all (with_line s (get_or ls i d)) (drop (i + 1) ls)
 unfolding with_all

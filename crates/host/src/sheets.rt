@@ -3,57 +3,59 @@ ghost use Rattle.sheet.specs.Sheet.{with_all};
 ghost use Rattle.sheet.specs.Check.{sheet_verdict};
 ghost use Rattle.sheetfile.specs.Written.{file_answered, file_left, run_answered, run_left};
 
+use refusals::refusal::Fault;
 use row::profile::Profile;
-use sheet::check::Verdict;
 use sheet::line::Line;
 use sheet::sheet::Sheet;
 use sheet_code::check::checked;
 use sheet_code::lines::{no_lines, with_line};
-use sheetfile::write::SheetWritten;
 use sheetfile_code::write::{put_file, put_run};
 
 // A sheet with a list of lines more.
-#[tactic(auto, using(crate::proofs::Folds::fold_start, crate::proofs::Folds::fold_more, crate::proofs::Folds::fold_end))]
+#[tactic(auto, using(crate::proofs::Folds::fold_more, crate::proofs::Folds::fold_end))]
 pub fn with_lines(lines: &[Line], from: Sheet) -> Sheet
     ensures { result ≡ with_all from lines.now }
 {
     let mut sheet = from;
-    let mut i = 0;
-    while i < lines.len() {
-        sheet = with_line(sheet, lines[i]);
-        i += 1;
+    for line in lines {
+        sheet = with_line(sheet, *line);
     }
     sheet
 }
 
 // The check of a sheet that comes as a list of lines: 6, then the lowest line at fault.
 #[tactic(auto, using(sheet::proofs::Sheets::verdict_together))]
-pub fn check_sheet(profile: Profile, lines: &[Line]) -> Verdict
+pub fn check_sheet(profile: Profile, lines: &[Line]) -> Result<(), Fault>
     ensures { result ≡ sheet_verdict profile lines.now }
 {
-    let empty = no_lines();
-    let sheet = with_lines(lines, empty);
-    checked(profile, sheet)
+    checked(profile, with_lines(lines, no_lines()))
 }
 
-// Writes its file into the rest of the buffer from a place: the sheet's checks, then 9.
+// Writes its file into the rest of the buffer from a place: the sheet's checks, then 9. Beside `write_run`, since the
+// documents name a file and a run; below, one function writes both.
 #[tactic(auto, using(sheetfile::proofs::Together::file_answer, sheetfile::proofs::Together::file_after))]
-pub fn write_sheet_file(profile: Profile, lines: &[Line], buf: &mut [u8], at: usize) -> SheetWritten
+pub fn write_sheet_file(
+    profile: Profile,
+    lines: &[Line],
+    buf: &mut [u8],
+    at: usize,
+) -> Result<usize, Fault>
     ensures answers { result ≡ file_answered profile lines.now buf.old at }
     ensures leaves { buf.new ≡ file_left profile lines.now buf.old at }
 {
-    let empty = no_lines();
-    let sheet = with_lines(lines, empty);
-    put_file(buf, at, profile, sheet)
+    put_file(buf, at, profile, with_lines(lines, no_lines()))
 }
 
 // Writes its run into the rest of the buffer from a place: the sheet's checks, then 9 for the whole run.
 #[tactic(auto, using(sheetfile::proofs::Together::run_answer, sheetfile::proofs::Together::run_after))]
-pub fn write_run(profile: Profile, lines: &[Line], buf: &mut [u8], at: usize) -> SheetWritten
+pub fn write_run(
+    profile: Profile,
+    lines: &[Line],
+    buf: &mut [u8],
+    at: usize,
+) -> Result<usize, Fault>
     ensures answers { result ≡ run_answered profile lines.now buf.old at }
     ensures leaves { buf.new ≡ run_left profile lines.now buf.old at }
 {
-    let empty = no_lines();
-    let sheet = with_lines(lines, empty);
-    put_run(buf, at, profile, sheet)
+    put_run(buf, at, profile, with_lines(lines, no_lines()))
 }

@@ -1,5 +1,5 @@
 -- Document 01, 'Commands of the two profiles' and 'Refusal numbers', lines 1 to 4; document 02, C-11, refusal 13.
-use Rattle.std.specs.Prelude.{ℕ, Bool, true, false, cond, not, ◌&&◌, ◌||◌, List, [], ◌∷◌, eqb, leb, ltb, length, get_or}
+use Rattle.std.specs.Prelude.{ℕ, Bool, true, false, cond, not, ◌&&◌, ◌||◌, List, [], ◌∷◌, eqb, leb, ltb, length, get_or, Err, None, Ok, Option, Result, Some}
 use Rattle.refusals.specs.Rule.{Rule, rule, ruled}
 use Rattle.frame.specs.declared.direction.Direction.{Direction}
 use Rattle.frame.specs.declared.direction.Direction.TheVariants.{Command, Answer}
@@ -8,10 +8,8 @@ use Rattle.row.specs.Table.{row_of}
 use Rattle.row.specs.declared.profile.Profile.{Profile}
 use Rattle.row.specs.declared.table.Codes.{Codes}
 use Rattle.row.specs.declared.table.Row.{Row}
-use Rattle.row.specs.declared.table.Found.{Found}
-use Rattle.row.specs.declared.table.Found.TheVariants as found
-use Rattle.judging.specs.declared.judge.Judged.{Judged}
-use Rattle.judging.specs.declared.judge.Judged.TheVariants.{Legal, Refused}
+use Rattle.refusals.specs.declared.refusal.Refusal.{Refusal}
+use Rattle.refusals.specs.declared.refusal.Refusal.TheVariants.{NoRow, NoStep, WrongLength, WrongValue, WrongZone}
 
 -- a code among a row's codes
 abbrev pub within : Codes → ℕ → Bool
@@ -57,14 +55,14 @@ has_data dir row body = has_length dir row (length body) && has_value dir row bo
 
 -- 1: "zone not of the profile, or not 1 in a zone-1 row"
 abbrev pub wrong_profile_zone : Profile → ℕ → Rule
-wrong_profile_zone profile zone = rule 1 (eqb zone 0 || ltb (zones_of profile) zone)
+wrong_profile_zone profile zone = rule WrongZone (eqb zone 0 || ltb (zones_of profile) zone)
 
 abbrev pub wrong_row_zone : Row → ℕ → Rule
-wrong_row_zone row zone = rule 1 (ltb row.zones zone)
+wrong_row_zone row zone = rule WrongZone (ltb row.zones zone)
 
 -- 3: "data length that the row and direction lack"
 abbrev pub wrong_length : Direction → Row → ℕ → Rule
-wrong_length dir row n = rule 3 (not (has_length dir row n))
+wrong_length dir row n = rule WrongLength (not (has_length dir row n))
 
 -- "F0, F1 or F2"
 abbrev pub is_step_or_request : ℕ → Bool
@@ -76,22 +74,22 @@ lacks_step row body = eqb (length body) 1 && (is_step_or_request (get_or body 0 
 
 -- 13: "step or request that this row does not have"
 abbrev pub wrong_step : Row → List ℕ → Rule
-wrong_step row body = rule 13 (lacks_step row body)
+wrong_step row body = rule NoStep (lacks_step row body)
 
 -- 4: "data value that the row and direction lack". In commands 13 comes "at 4's place in the order", and "4 stays for a setting code
 -- outside the row's codes, and for all answers". Whether data are unfit is asked of the value, and in writing of the typed form too.
 abbrev pub value_rules : Direction → Row → List ℕ → Bool → List Rule
-value_rules Command row body unfit = wrong_step row body ∷ rule 4 (unfit && not (lacks_step row body)) ∷ []
-value_rules Answer row body unfit = rule 4 unfit ∷ []
+value_rules Command row body unfit = wrong_step row body ∷ rule WrongValue (unfit && not (lacks_step row body)) ∷ []
+value_rules Answer row body unfit = rule WrongValue unfit ∷ []
 
--- the number that these rules give where the data are unfit
-abbrev pub value_refusal : Direction → Row → List ℕ → ℕ
-value_refusal dir row body = ruled (value_rules dir row body true) (λ n. n) 0
+-- the refusal that these rules give where the data are unfit: one of them applies then, so 4 is given by its rule alone
+abbrev pub value_refusal : Direction → Row → List ℕ → Refusal
+value_refusal dir row body = ruled (value_rules dir row body true) (λ e. e) WrongValue
 
 -- 2: "command without a row in the profile"; a command with a row goes by rules of that row
-abbrev pub by_row : Found → (Row → List Rule) → List Rule
-by_row found.NoRow rules = rule 2 true ∷ []
-by_row (found.Row row) rules = rules row
+abbrev pub by_row : Option Row → (Row → List Rule) → List Rule
+by_row None rules = rule NoRow true ∷ []
+by_row (Some row) rules = rules row
 
 -- "Commands: zone of the profile, row, zone of the row", and then more rules of the row
 abbrev pub row_rules : Profile → ℕ → ℕ → (Row → List Rule) → List Rule
@@ -105,12 +103,12 @@ abbrev pub judge_rules : Profile → Direction → ℕ → ℕ → List ℕ → 
 judge_rules profile dir zone command body = row_rules profile zone command (data_rules dir body)
 
 -- the row that was found; without one it is 2 here too
-abbrev pub judged_by : Found → Judged
-judged_by (found.Row row) = Legal row
-judged_by found.NoRow = Refused 2
+abbrev pub judged_by : Option Row → Result Row Refusal
+judged_by (Some row) = Ok row
+judged_by None = Err NoRow
 
-unfoldable pub row_judged : Profile → ℕ → ℕ → Judged
-row_judged profile zone command = ruled (row_rules profile zone command (λ row. [])) Refused (judged_by (row_of profile command))
+unfoldable pub row_judged : Profile → ℕ → ℕ → Result Row Refusal
+row_judged profile zone command = ruled (row_rules profile zone command (λ row. [])) Err (judged_by (row_of profile command))
 
-unfoldable pub judged_of : Profile → Direction → ℕ → ℕ → List ℕ → Judged
-judged_of profile dir zone command body = ruled (judge_rules profile dir zone command body) Refused (judged_by (row_of profile command))
+unfoldable pub judged_of : Profile → Direction → ℕ → ℕ → List ℕ → Result Row Refusal
+judged_of profile dir zone command body = ruled (judge_rules profile dir zone command body) Err (judged_by (row_of profile command))

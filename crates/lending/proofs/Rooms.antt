@@ -4,34 +4,16 @@ use mathlib.Core.Bool.{Bool, true, false}
 use mathlib.Core.List.{List, [], ◌∷◌, ◌++◌}
 use Prim.Native.Nat.{ℕ, zero, suc, ◌+◌, ◌-◌, ◌≤◌, ◌<◌}
 use native.Mathlib.Nat.{zero-add}
-use native.Mathlib.Numerals.{add-one}
 use native.Mathlib.Omega.{arith}
 use lib.Dec.{leb, ltb}
-use lib.ListN.{length, get_or, set, take, replicate, length-append}
-use lib.Seq.{paste, paste-suc, take_all, take-append-le, take-append-add}
-use borrow.Author.Tests.{le-leb, lt-leb, le-ltb, leb-true, leb-false, ltb-false}
+use lib.ListN.{length, take, replicate, length-append}
+use lib.Seq.{take_all, take-append-le, take-append-add}
+use borrow.Author.Tests.{le-leb, lt-leb, le-ltb, leb-true, leb-false}
 use Rattle.sheet.specs.Sheet.{sheet_limit, no_line, no_lines, with_line, with_all, lines_of}
 use Rattle.sheet.specs.declared.line.Line.{Line}
 use Rattle.sheet.specs.declared.sheet.Sheet.{Sheet}
 use Rattle.sheet.proofs.Faults.{first_short}
 use Rattle.lending.specs.Room.{room_limit, room_of, count_of}
-
--- one line more is copied into the array
-pub filled_more : (room kept : List Line) (i : ℕ) (d : Line) → i < length room → i < length kept → set (paste room 0 kept i) i (get_or kept i d) ≡ paste room 0 kept (i + 1)
-filled_more room kept i d h k =
-    ap (λ (n : ℕ). set (paste room 0 kept i) n (get_or kept i d)) (sym (zero-add i)) ∙ paste-suc room 0 kept i d (omega (arith, zero-add i)) k ∙ ap (paste room 0 kept) (sym (add-one i))
-
--- the array, once all are
-pub filled : (kept : List Line) → length kept ≡ sheet_limit → paste (replicate room_limit no_line) 0 kept sheet_limit ≡ kept ++ no_line ∷ []
-filled kept long = ap (λ (ls : List Line). ls ++ no_line ∷ []) (take_all sheet_limit kept (omega arith))
-
-pub fits : (s : Sheet) (count : ℕ) → count ≡ count_of s → count ≤ room_limit
-unfolding count_of
-fits s count e = go (ltb room_limit s.count) refl
-  where
-    go : (t : Bool) → ltb room_limit s.count ≡ t → count ≤ room_limit
-    go true f = rw (e, f) (omega arith)
-    go false f = rw (e, f) (ltb-false _ _ f)
 
 -- lines brought to a sheet one after another
 all_append : (s : Sheet) (xs ys : List Line) → with_all s (xs ++ ys) ≡ with_all (with_all s xs) ys
@@ -72,46 +54,37 @@ begins zero m h k = absurd (omega arith)
 begins (suc n) zero h k = absurd (omega arith)
 begins (suc n) (suc m) h k = (take n (replicate m no_line), refl)
 
-module _ (s : Sheet) (long : length s.lines ≡ sheet_limit) where
-  abbrev lent : List Line
-  lent = take (count_of s) (room_of s)
+-- the list that is lent, within the limit and past it
+lent_short : (s : Sheet) → length s.lines ≡ sheet_limit → s.count ≤ sheet_limit → take (count_of s) (room_of s) ≡ lines_of s
+unfolding count_of room_of
+lent_short s long h =
+    rw (le-ltb room_limit s.count (omega arith))
+    (take-append-le s.count s.lines (no_line ∷ []) (omega arith) ∙ sym (first_short s.lines s.count (omega arith)))
 
-  -- within the limit the list that is lent is the sheet's own
-  short : s.count ≤ sheet_limit → lent ≡ lines_of s
-  unfolding count_of room_of
-  short h =
-      rw (le-ltb room_limit s.count (omega arith))
-      (take-append-le s.count s.lines (no_line ∷ []) (omega arith) ∙ sym (first_short s.lines s.count (omega arith)))
+lent_all : (s : Sheet) → length s.lines ≡ sheet_limit → sheet_limit < s.count → take (count_of s) (room_of s) ≡ s.lines ++ no_line ∷ []
+unfolding count_of room_of
+lent_all s long h = go (ltb room_limit s.count) refl
+  where
+    go : (t : Bool) → ltb room_limit s.count ≡ t → take (count_of s) (room_of s) ≡ s.lines ++ no_line ∷ []
+    go true e = rw e (take_all room_limit (s.lines ++ no_line ∷ []) (omega (arith, length-append s.lines (no_line ∷ []))))
+    go false e = rw e (take_all s.count (s.lines ++ no_line ∷ []) (omega (arith, length-append s.lines (no_line ∷ []))))
 
-  all : sheet_limit < s.count → lent ≡ s.lines ++ no_line ∷ []
-  unfolding count_of room_of
-  all h = go (ltb room_limit s.count) refl
-    where
-      go : (t : Bool) → ltb room_limit s.count ≡ t → lent ≡ s.lines ++ no_line ∷ []
-      go true e = rw e (take_all room_limit (s.lines ++ no_line ∷ []) (omega (arith, length-append s.lines (no_line ∷ []))))
-      go false e = rw e (take_all s.count (s.lines ++ no_line ∷ []) (omega (arith, length-append s.lines (no_line ∷ []))))
+longer : (s : Sheet) → length s.lines ≡ sheet_limit → sheet_limit < s.count → (ls : List Line) × (lines_of s ≡ s.lines ++ no_line ∷ ls)
+longer s long h =
+    let more = s.count - sheet_limit in
+    let b = begins more s.count (omega arith) (omega arith) in
+    let split : s.count ≡ length s.lines + more = omega arith in (
+      b.0,
+      ap (λ (n : ℕ). take n (s.lines ++ replicate s.count no_line)) split ∙ take-append-add s.lines (replicate s.count no_line) more
+          ∙ ap (λ (ls : List Line). s.lines ++ ls) b.1,
+    )
 
-  longer : sheet_limit < s.count → (ls : List Line) × (lines_of s ≡ s.lines ++ no_line ∷ ls)
-  longer h =
-      let more = s.count - sheet_limit in
-      let b = begins more s.count (omega arith) (omega arith) in
-      let split : s.count ≡ length s.lines + more = omega arith in (
-        b.0,
-        ap (λ (n : ℕ). take n (s.lines ++ replicate s.count no_line)) split ∙ take-append-add s.lines (replicate s.count no_line) more
-            ∙ ap (λ (ls : List Line). s.lines ++ ls) b.1,
-      )
-
-  brought : with_all no_lines lent ≡ with_all no_lines (lines_of s)
-  brought = go (leb s.count sheet_limit) refl
-    where
-      go : (t : Bool) → leb s.count sheet_limit ≡ t → with_all no_lines lent ≡ with_all no_lines (lines_of s)
-      go true e = ap (with_all no_lines) (short (leb-true _ _ e))
-      go false e =
-          let h : sheet_limit < s.count = leb-false _ _ e in
-          ap (with_all no_lines) (all h) ∙ full s.lines no_line [] long ∙ sym (full s.lines no_line (longer h).0 long) ∙ ap (with_all no_lines) (sym (longer h).1)
-
--- whatever answers for lines brought together answers for what is lent as for the sheet's own list
-pub same : (s : Sheet) → length s.lines ≡ sheet_limit → (room : List Line) (count : ℕ) → room ≡ room_of s → count ≡ count_of s
-    → {A : Type 0} (answer : List Line → A) → ((ls : List Line) → answer (lines_of (with_all no_lines ls)) ≡ answer ls) → answer (take count room) ≡ answer (lines_of s)
-same s long room count e f answer together =
-    ap answer (λ i. take (f i) (e i)) ∙ sym (together (lent s long)) ∙ ap (λ (t : Sheet). answer (lines_of t)) (brought s long) ∙ together (lines_of s)
+-- what is lent is brought together as the sheet's own list is, so whatever answers for lines brought together answers alike
+pub brought : (s : Sheet) → length s.lines ≡ sheet_limit → with_all no_lines (take (count_of s) (room_of s)) ≡ with_all no_lines (lines_of s)
+brought s long = go (leb s.count sheet_limit) refl
+  where
+    go : (t : Bool) → leb s.count sheet_limit ≡ t → with_all no_lines (take (count_of s) (room_of s)) ≡ with_all no_lines (lines_of s)
+    go true e = ap (with_all no_lines) (lent_short s long (leb-true _ _ e))
+    go false e =
+        let h : sheet_limit < s.count = leb-false _ _ e in
+        ap (with_all no_lines) (lent_all s long h) ∙ full s.lines no_line [] long ∙ sym (full s.lines no_line (longer s long h).0 long) ∙ ap (with_all no_lines) (sym (longer s long h).1)

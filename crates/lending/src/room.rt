@@ -1,5 +1,5 @@
-ghost use Rattle.std.specs.Prelude.{◌≡◌};
-ghost use Rattle.lending.specs.Room.{room_of, count_of};
+ghost use Rattle.std.specs.Prelude.{◌≡◌, ◌≤◌};
+ghost use Rattle.lending.specs.Room.{room_limit, room_of, count_of};
 
 use sheet::line::Line;
 use sheet::sheet::{SHEET_LIMIT, Sheet};
@@ -12,28 +12,20 @@ pub(crate) const ROOM: usize = SHEET_LIMIT + 1;
 pub(crate) fn room_of(sheet: Sheet) -> [Line; ROOM]
     ensures { result ≡ room_of sheet }
 {
-    let kept = sheet.lines;
     let mut room = [Line {
         zone: 0,
         command: 0,
         value: 0,
     }; ROOM];
-    let mut i = 0;
-    while i < SHEET_LIMIT {
-        room[i] = kept[i];
-        i += 1;
-    }
+    room[..SHEET_LIMIT].copy_from_slice(&sheet.lines);
     room
 }
 
 // How many of them are lent: any longer sheet counts as one line too long.
 #[tactic(auto, unfolding(crate::specs::Room::count_of))]
 pub(crate) fn count_of(sheet: Sheet) -> usize
-    ensures { result ≡ count_of sheet }
+    ensures counts { result ≡ count_of sheet }
+    ensures within { result ≤ room_limit }
 {
-    let count = sheet.count;
-    if ROOM < count {
-        return ROOM;
-    }
-    count
+    sheet.count.min(ROOM)
 }

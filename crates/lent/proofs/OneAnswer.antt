@@ -6,10 +6,11 @@ use Rattle.refusals.specs.OneAnswer.{OneAnswer}
 use Rattle.refusals.proofs.One.{one, one_lent}
 use Rattle.lent.specs.Placed.{bytes_at, last_bytes}
 use Rattle.lent.specs.Written.{lacks_room, write_answered, write_left}
-use Rattle.lent.specs.declared.written.Written.{Written}
+use Rattle.std.specs.Prelude.{Result}
+use Rattle.refusals.specs.declared.refusal.Refusal.{Refusal}
 
 pub write_bytes_one : (buf : List ℕ) (at : ℕ) (bytes : List ℕ)
-    → OneAnswer (λ (x : Written × List ℕ). (x.0 ≡ write_answered [] buf at bytes) × (x.1 ≡ write_left [] buf at bytes))
+    → OneAnswer (λ (x : Result ℕ Refusal × List ℕ). (x.0 ≡ write_answered [] buf at bytes) × (x.1 ≡ write_left [] buf at bytes))
 write_bytes_one buf at bytes = one_lent (write_answered [] buf at bytes) (write_left [] buf at bytes)
 
 pub lacks_room_one : (length at count : ℕ) → OneAnswer (λ x. x ≡ lacks_room length at count)

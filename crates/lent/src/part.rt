@@ -7,11 +7,8 @@ ghost use Rattle.lent.specs.Placed.{bytes_at, last_bytes};
 pub fn bytes_at(bytes: &[u8], at: usize, length: usize) -> &[u8]
     ensures { result.now ≡ bytes_at bytes.now at length }
 {
-    if at > bytes.len() {
-        return &bytes[..0];
-    }
-    if length > bytes.len() - at {
-        return &bytes[..0];
+    if at > bytes.len() || length > bytes.len() - at {
+        return &[];
     }
     &bytes[at..at + length]
 }
@@ -23,7 +20,7 @@ pub fn last_bytes(kept: &[u8], count: usize) -> &[u8]
     ensures { result.now ≡ last_bytes kept.now count }
 {
     if count > kept.len() {
-        return &kept[..0];
+        return &[];
     }
     &kept[kept.len() - count..]
 }

@@ -5,7 +5,7 @@
 ghost use Rattle.std.specs.Prelude.{◌≤◌, length, IfOk};
 
 use listing_code::piece::list_piece;
-use listing_pieces::piece::{Piece, Place};
+use listing_pieces::piece::Place;
 use std::io;
 use std::io::{Read, Stdin, Stdout};
 
@@ -25,6 +25,7 @@ fn read_full(mut from: Stdin, buffer: &mut [u8]) -> io::Result<usize>
     ensures { IfOk result (λ count. count ≤ length buffer.new) }
 {
     let mut at = 0;
+    // a `while`: each read gives as many bytes as it likes, and a program with no heap has no `read_to_end`
     while at < buffer.len() {
         let got = from.read(&mut buffer[at..])?;
         if got == 0 {
@@ -37,17 +38,14 @@ fn read_full(mut from: Stdin, buffer: &mut [u8]) -> io::Result<usize>
 
 // Piece after piece, until one has no bytes.
 fn list(out: Stdout, input: &[u8]) -> io::Result<()> {
-    let mut piece = [0u8; PIECE];
+    let mut buffer = [0u8; PIECE];
     let mut place = Place::Start;
-    loop {
-        let answer = list_piece(input, place, &mut piece);
-        let Piece::Text(count, next) = answer else {
-            return Ok(());
-        };
-        if count == 0 {
-            return Ok(());
+    while let Ok(piece) = list_piece(input, place, &mut buffer) {
+        if piece.length == 0 {
+            break;
         }
-        out.write_all(lent::part::bytes_at(&piece, 0, count))?;
-        place = next;
+        out.write_all(lent::part::bytes_at(&buffer, 0, piece.length))?;
+        place = piece.next;
     }
+    Ok(())
 }

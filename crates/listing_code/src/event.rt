@@ -1,7 +1,6 @@
 // One event of a capture as a line of text.
-ghost use Rattle.std.specs.Prelude.{◌≡◌, ◌++◌, ◌+◌, ◌^◌, ◌≤◌, ◌<◌, length};
+ghost use Rattle.std.specs.Prelude.{◌≡◌, ◌++◌, ◌+◌, ◌^◌, ◌≤◌, ◌<◌, length, Err, Ok, Some};
 ghost use Rattle.message.specs.declared.content.Content.TheVariants as content;
-ghost use Rattle.message.specs.declared.read.FrameReading.TheVariants as reading;
 ghost use Rattle.message.specs.declared.read.Message.TheVariants as message;
 ghost use Rattle.characters.specs.Letters.{letters};
 ghost use Rattle.characters.specs.Decimal.{decimal};
@@ -15,37 +14,35 @@ use frame::direction::Direction;
 use lent::part::bytes_at;
 use listing_pieces::event::Shown;
 use message::content::Content;
-use message::read::{Denial, FrameReading, Message, Said};
+use message::read::{Denial, Message, Said};
 use message_read::read::read_frame;
+use refusals::refusal::Refusal;
 use row::profile::Profile;
 
-// Where it is, how long it is, and what it is.
-pub(crate) fn put_event(
-    profile: Profile,
-    direction: Direction,
-    capture: &[u8],
-    event: Event,
-    buf: &mut [u8],
-    at: usize,
-) -> usize
-    requires { (event.at < 2 ^ 16) × (event.length < 2 ^ 16) × (at + 38 ≤ length buf.old) }
-    ensures { Put 38 buf.old at (event_line profile direction capture.now event) buf.new result }
-{
-    let first = put_number(buf, at, event.at as u16);
-    let second = put_bytes(buf, first, b" ");
-    let third = put_number(buf, second, event.length as u16);
-    let kind = event.kind;
-    put_kind(
-        profile,
-        direction,
-        bytes_at(capture, event.at, event.length),
-        kind,
-        buf,
-        third,
-    )
+// A capture that is listed: the receivers that it is of, which way its frames go, and its bytes.
+#[derive(Clone, Copy)]
+pub(crate) struct Listed<'a> {
+    pub profile: Profile,
+    pub direction: Direction,
+    pub capture: &'a [u8],
 }
 
-// What stands behind the place and the length.
+impl Listed<'_> {
+    // Where an event is, how long it is, and what it is.
+    pub(crate) fn put_event(&self, event: Event, buf: &mut [u8], at: usize) -> usize
+        requires { (event.at < 2 ^ 16) × (event.length < 2 ^ 16) × (at + 38 ≤ length buf.old) }
+        ensures { Put 38 buf.old at (event_line self.now.profile self.now.direction self.now.capture.now event) buf.new result }
+    {
+        let first = put_number(buf, at, event.at as u16);
+        let second = put_bytes(buf, first, b" ");
+        let third = put_number(buf, second, event.length as u16);
+        let bytes = bytes_at(self.capture, event.at, event.length);
+        put_kind(self.profile, self.direction, bytes, event.kind, buf, third)
+    }
+}
+
+// What stands behind the place and the length. 27 bytes are the most that it takes, so that each function which chooses
+// among its texts asks for as many.
 #[tactic(auto, unfolding(characters::specs::Letters::letters, listing_text::specs::Listing::text_line))]
 fn put_kind(
     profile: Profile,
@@ -67,30 +64,30 @@ fn put_kind(
 }
 
 #[tactic(auto, unfolding(characters::specs::Letters::letters, listing_text::specs::Listing::text_line))]
-fn put_reading(reading: FrameReading, buf: &mut [u8], at: usize) -> usize
+fn put_reading(reading: Option<Result<Message, Refusal>>, buf: &mut [u8], at: usize) -> usize
     requires { at + 27 ≤ length buf.old }
     ensures { Put 27 buf.old at (behind (read_text reading)) buf.new result }
 {
     match reading {
-        FrameReading::Message(message) => put_message(message, buf, at),
-        FrameReading::Refused(number) => put_unread(number, buf, at),
-        FrameReading::NotOneFrame => put_bytes(buf, at, b" broken - - - -\n"),
+        Some(Ok(message)) => put_message(message, buf, at),
+        Some(Err(refusal)) => put_unread(refusal, buf, at),
+        None => put_bytes(buf, at, b" broken - - - -\n"),
     }
 }
 
-fn put_unread(number: u8, buf: &mut [u8], at: usize) -> usize
+fn put_unread(refusal: Refusal, buf: &mut [u8], at: usize) -> usize
     requires { at + 20 ≤ length buf.old }
-    ensures { Put 20 buf.old at (behind (read_text (reading.Refused number))) buf.new result }
+    ensures { Put 20 buf.old at (behind (read_text (Some (Err refusal)))) buf.new result }
 {
     let first = put_bytes(buf, at, b" unread - - - ");
-    let second = put_number(buf, first, number as u16);
+    let second = put_number(buf, first, refusal.number() as u16);
     put_bytes(buf, second, b"\n")
 }
 
 #[tactic(auto, unfolding(characters::specs::Letters::letters, listing_text::specs::Listing::text_line))]
 fn put_message(message: Message, buf: &mut [u8], at: usize) -> usize
     requires { at + 27 ≤ length buf.old }
-    ensures { Put 27 buf.old at (behind (read_text (reading.Message message))) buf.new result }
+    ensures { Put 27 buf.old at (behind (read_text (Some (Ok message)))) buf.new result }
 {
     match shown_of(message) {
         Shown::Said(said, answered) => put_said(said, answered, buf, at),
@@ -114,8 +111,7 @@ fn put_said(said: Said, answered: bool, buf: &mut [u8], at: usize) -> usize
 {
     let next = put_named(b" frame ", said.zone, said.command, buf, at);
     let value = put_answer(answered, buf, next);
-    let content = said.content;
-    put_last(content, buf, value)
+    put_last(said.content, buf, value)
 }
 
 // The answer with a space on either side: a dash in commands; a status was answered with 00. Each text is put as it
@@ -133,7 +129,7 @@ fn put_answer(answered: bool, buf: &mut [u8], at: usize) -> usize
 
 fn put_denied(denial: Denial, buf: &mut [u8], at: usize) -> usize
     requires { at + 22 ≤ length buf.old }
-    ensures { Put 22 buf.old at (behind (read_text (reading.Message (message.Denied denial)))) buf.new result }
+    ensures { Put 22 buf.old at (behind (read_text (Some (Ok (message.Denied denial))))) buf.new result }
 {
     let first = put_named(b" denied ", denial.zone, denial.command, buf, at);
     let second = put_bytes(buf, first, b" ");

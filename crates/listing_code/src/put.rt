@@ -1,4 +1,5 @@
 // Text at a place of a buffer that has room for it: each function answers the place behind its text.
+// Buffer and place stand side by side: document 01 names that form, "the rest of a lent buffer from a given place".
 ghost use Rattle.std.specs.Prelude.{◌≡◌, ◌+◌, ◌^◌, ◌≤◌, ◌<◌, length};
 ghost use Rattle.lent.specs.Written.{written_count};
 ghost use Rattle.characters.specs.Decimal.{decimal, integer};
@@ -7,7 +8,8 @@ ghost use Rattle.listing_pieces.specs.Computed.{Put};
 
 use characters::hex::write_hex;
 use decimal::decimal::{write_decimal, write_integer};
-use lent::written::{Written, write_bytes};
+use lent::written::write_bytes;
+use refusals::refusal::Refusal;
 
 #[tactic(auto, using(listing_pieces::proofs::Puts::wrote, listing_pieces::proofs::Puts::within))]
 pub(crate) fn put_bytes(buf: &mut [u8], at: usize, text: &[u8]) -> usize
@@ -41,12 +43,9 @@ pub(crate) fn put_hex(buf: &mut [u8], at: usize, byte: u8) -> usize
 }
 
 // The place behind what was written.
-fn behind(at: usize, written: Written) -> usize
+fn behind(at: usize, written: Result<usize, Refusal>) -> usize
     requires { at + written_count written < 2 ^ 64 }
     ensures { result ≡ at + written_count written }
 {
-    match written {
-        Written::Bytes(count) => at + count,
-        Written::Refused(_) => at,
-    }
+    at + written.unwrap_or(0)
 }

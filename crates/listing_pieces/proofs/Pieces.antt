@@ -16,10 +16,14 @@ use Rattle.frame.proofs.Leads.{leads}
 use Rattle.row.specs.declared.profile.Profile.{Profile}
 use Rattle.listing_text.specs.Listing.{event_line}
 use Rattle.listing_pieces.specs.Pieces.{line_limit, Given, given, coming_events, coming_from, filled, text_as}
-use Rattle.listing_pieces.specs.Computed.{Put, first_text, first_next, is_end}
+use Rattle.listing_pieces.specs.Computed.{Put, first_text, first_next}
 use Rattle.listing_pieces.specs.declared.piece.Place.{Place}
 use Rattle.listing_pieces.specs.declared.piece.Place.TheVariants as place
-use Rattle.listing_pieces.specs.declared.piece.Piece.TheVariants as piece
+use Rattle.listing_pieces.specs.declared.piece.Piece.{Piece}
+
+-- a piece of so many bytes
+abbrev pub text_at : ℕ → Place → Piece
+text_at count next = record { length = count; next = next }
 
 -- text before what is given
 abbrev pub onward : List ℕ → Given → Given
@@ -63,19 +67,17 @@ module _ (profile : Profile) (dir : Direction) (capture : List ℕ) where
       (others ∙ ap (λ (k : ℕ). events_from dir capture k) there)
 
   -- the lines behind the first are those of the place that it leads to
-  pub lines_on : (at : Place) → is_end at ≡ false → lines at ≡ given (first_text (lines at)) (first_next at (lines at)) ∷ lines (first_next at (lines at))
+  pub lines_on : (at : Place) → (at ≡ place.End → ⊥) → lines at ≡ given (first_text (lines at)) (first_next at (lines at)) ∷ lines (first_next at (lines at))
   lines_on place.Start e = refl
   lines_on (place.Event at) e = steps_on at (events_from dir capture at) refl
-  lines_on place.End e = let z : ◌≡◌ {A = ℕ} 0 1 = cc in absurd (omega arith)
+  lines_on place.End e = absurd (e refl)
 
-  pub fewer : (at : Place) → is_end at ≡ false → length (lines (first_next at (lines at))) < length (lines at)
+  pub fewer : (at : Place) → (at ≡ place.End → ⊥) → length (lines (first_next at (lines at))) < length (lines at)
   fewer at e = let on : length (lines at) ≡ suc (length (lines (first_next at (lines at)))) = ap (λ (gs : List Given). length gs) (lines_on at e) in omega arith
 
-  pub filled_end : (room : ℕ) (at : Place) → is_end at ≡ true → filled room at (lines at) ≡ given [] at
+  pub filled_end : (room : ℕ) (at : Place) → at ≡ place.End → filled room at (lines at) ≡ given [] at
   unfolding filled
-  filled_end room place.Start e = let z : ◌≡◌ {A = ℕ} 0 1 = cc in absurd (omega arith)
-  filled_end room (place.Event at) e = let z : ◌≡◌ {A = ℕ} 0 1 = cc in absurd (omega arith)
-  filled_end room place.End e = refl
+  filled_end room at e = rw e
 
   -- some lines stand in the buffer, and the piece is they and what is filled in behind them
   module _ (buf₀ : List ℕ) (start : Place) where
@@ -101,14 +103,14 @@ module _ (profile : Profile) (dir : Direction) (capture : List ℕ) where
     }
 
     pub ended : (buf : List ℕ) (at : ℕ) (next : Place) → Filling buf at next → filled (length buf₀ - at) next (lines next) ≡ given [] next
-        → (piece.Text at next ≡ text_as whole) × (buf ≡ placed buf₀ 0 whole.text)
+        → (text_at at next ≡ text_as whole) × (buf ≡ placed buf₀ 0 whole.text)
     ended buf at next f none =
         let is : whole ≡ given f.done next = f.same ∙ ap (λ (g : Given). onward f.done g) none ∙ ap (λ (xs : List ℕ). given xs next) (append-nil f.done) in (
-          ap (λ (k : ℕ). piece.Text k next) f.counted ∙ sym (ap text_as is),
+          ap (λ (k : ℕ). text_at k next) f.counted ∙ sym (ap text_as is),
           f.stands ∙ sym (ap (λ (g : Given). placed buf₀ 0 g.text) is),
         )
 
-    pub more : (buf after : List ℕ) (at end : ℕ) (next then : Place) → Filling buf at next → line_limit ≤ length buf - at → is_end next ≡ false
+    pub more : (buf after : List ℕ) (at end : ℕ) (next then : Place) → Filling buf at next → line_limit ≤ length buf - at → (next ≡ place.End → ⊥)
         → Put line_limit buf at (first_text (lines next)) after end → then ≡ first_next next (lines next) → length after ≡ length buf → Filling after end then
     more buf after at end next then f room going put goes kept =
         let text = first_text (lines next) in
@@ -135,13 +137,13 @@ module _ (profile : Profile) (dir : Direction) (capture : List ℕ) where
 
 -- a listing of one line
 pub one_line_lem : (m : ℕ) (buf after text : List ℕ) (end : ℕ) (start : Place) → line_limit ≤ length buf → Put m buf 0 text after end
-    → (piece.Text end place.End ≡ text_as (filled (length buf) start (given text place.End ∷ [])))
+    → (text_at end place.End ≡ text_as (filled (length buf) start (given text place.End ∷ [])))
     × (after ≡ placed buf 0 (filled (length buf) start (given text place.End ∷ [])).text)
 unfolding filled
 one_line_lem m buf after text end start room put =
     let count : end ≡ length text = omega (arith, put.ends) in
     let is : filled (length buf) start (given text place.End ∷ []) ≡ given text place.End =
     filled_on (length buf) start (given text place.End) [] room ∙ ap (λ (xs : List ℕ). given xs place.End) (append-nil text) in (
-      ap (λ (k : ℕ). piece.Text k place.End) count ∙ sym (ap text_as is),
+      ap (λ (k : ℕ). text_at k place.End) count ∙ sym (ap text_as is),
       put.stands ∙ sym (ap (λ (g : Given). placed buf 0 g.text) is),
     )

@@ -6,14 +6,15 @@ use native.Mathlib.Omega.{arith}
 use lib.ListN.{length, take, drop, length-append, take-append-drop}
 use Rattle.lent.specs.Placed.{placed}
 use Rattle.lent.specs.Written.{write_answered, write_left, written_count}
-use Rattle.lent.specs.declared.written.Written.{Written}
 use Rattle.lent.proofs.Placed.{placed_both}
 use Rattle.lent.proofs.Writes.{write_fits}
 use Rattle.listing_text.specs.Listing.{text_line}
 use Rattle.listing_pieces.specs.Computed.{Put, behind}
+use Rattle.std.specs.Prelude.{Result}
+use Rattle.refusals.specs.declared.refusal.Refusal.{Refusal}
 
 -- what a write answers and leaves where there is room for its text
-module _ {buf after text : List ℕ} {at : ℕ} {w : Written} where
+module _ {buf after text : List ℕ} {at : ℕ} {w : (Result ℕ Refusal)} where
   pub wrote : (m end : ℕ) → at + length text ≤ length buf → length text ≤ m → w ≡ write_answered [] buf at text → after ≡ write_left [] buf at text
       → end ≡ at + written_count w → Put m buf at text after end
   wrote m end room short answers leaves e =
@@ -22,7 +23,7 @@ module _ {buf after text : List ℕ} {at : ℕ} {w : Written} where
       record { stands = leaves ∙ there.1; ends = omega (arith, e, count); short = omega (arith, e, count, short) }
 
 -- the place behind it is a place
-module _ (buf text : List ℕ) (at : ℕ) (w : Written) where
+module _ (buf text : List ℕ) (at : ℕ) (w : Result ℕ Refusal) where
   pub within : at + length text ≤ length buf → length buf < 2 ^ 64 → w ≡ write_answered [] buf at text → at + written_count w < 2 ^ 64
   within room small answers =
       let count : written_count w ≡ length text = ap written_count (answers ∙ (write_fits [] buf at text refl room).0) in

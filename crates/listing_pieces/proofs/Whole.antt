@@ -1,5 +1,5 @@
 -- The pieces, put together, are the listing.
-use mathlib.Core.Path.{◌≡◌, refl, ap, sym, ◌∙◌}
+use mathlib.Core.Path.{◌≡◌, refl, ap, sym, subst, ◌∙◌}
 use mathlib.Core.List.{List, [], ◌∷◌, ◌++◌, append-nil, append_assoc}
 use Prim.Native.Nat.{ℕ, zero, suc, ◌+◌, ◌-◌, ◌≤◌, ◌<◌}
 use native.Mathlib.Omega.{arith}
@@ -15,12 +15,12 @@ use Rattle.listing_text.specs.Listing.{heading, event_line, event_lines, total_l
 use Rattle.listing_pieces.specs.Pieces.{line_limit, Given, given, coming_events, coming_from, coming_refused, coming_as, coming_in, filled, piece_of, text_as, piece_answered, piece_left, texts, pieces}
 use Rattle.listing_pieces.specs.PiecesPromise.{PiecesPromise}
 use Rattle.listing_pieces.specs.Computed.{first_text, first_next}
-use Rattle.listing_text.specs.declared.asked.Asked.{Asked}
-use Rattle.listing_text.specs.declared.asked.Asked.TheVariants as asks
 use Rattle.listing_pieces.specs.declared.piece.Place.{Place}
 use Rattle.listing_pieces.specs.declared.piece.Place.TheVariants as place
-use Rattle.listing_pieces.specs.declared.piece.Piece.TheVariants as piece
+use Rattle.listing_pieces.specs.declared.piece.Piece.{Piece}
 use Rattle.listing_pieces.proofs.Pieces.{filled_on, filled_cases, lines_on}
+use Rattle.std.specs.Prelude.{Err, Ok, Result}
+use Rattle.refusals.specs.declared.refusal.Refusal.{Refusal}
 
 -- the lines behind a line are those of the place that it leads to
 abbrev Chain : (Place → List Given) → Type 0
@@ -28,29 +28,29 @@ Chain lines = (at : Place) (g : Given) (gs : List Given) → lines at ≡ g ∷ 
 
 chain_of : (profile : Profile) (dir : Direction) (capture : List ℕ) → Chain (coming_from profile dir capture)
 chain_of profile dir capture place.Start g gs e =
-    let same = lines_on profile dir capture place.Start refl in cc
+    let same = lines_on profile dir capture place.Start (λ f. cc) in cc
 chain_of profile dir capture (place.Event at) g gs e =
-    let on = lines_on profile dir capture (place.Event at) refl in
+    let on = lines_on profile dir capture (place.Event at) (λ f. cc) in
     let tails : g ∷ gs ≡ given (first_text (coming_from profile dir capture (place.Event at))) (first_next (place.Event at) (coming_from profile dir capture (place.Event at))) ∷ coming_from profile dir capture (first_next (place.Event at) (coming_from profile dir capture (place.Event at))) = sym e ∙ on in
     let others : gs ≡ coming_from profile dir capture (first_next (place.Event at) (coming_from profile dir capture (place.Event at))) = cc in
     others ∙ ap (λ (xs : List Given). coming_from profile dir capture (first_next (place.Event at) xs)) e
-chain_of profile dir capture place.End g gs e = let z : ◌≡◌ {A = ℕ} 0 1 = cc in absurd (omega arith)
+chain_of profile dir capture place.End g gs e = cc
 
-chain_refused : (n : ℕ) → Chain (coming_refused n)
-chain_refused n place.Start g gs e =
+chain_refused : (r : Refusal) → Chain (coming_refused r)
+chain_refused r place.Start g gs e =
     let none : gs ≡ [] = cc in
-    let last : g ≡ given (refused_text n) place.End = cc in
-    none ∙ sym (ap (λ (x : Given). coming_refused n x.next) last)
-chain_refused n (place.Event at) g gs e = let z : ◌≡◌ {A = ℕ} 0 1 = cc in absurd (omega arith)
-chain_refused n place.End g gs e = let z : ◌≡◌ {A = ℕ} 0 1 = cc in absurd (omega arith)
+    let last : g ≡ given (refused_text r) place.End = cc in
+    none ∙ sym (ap (λ (x : Given). coming_refused r x.next) last)
+chain_refused r (place.Event at) g gs e = cc
+chain_refused r place.End g gs e = cc
 
-chain : (a : Asked) (capture : List ℕ) → Chain (coming_as a capture)
-chain (asks.Listing p dir) capture = chain_of p dir capture
-chain (asks.Refused n) capture = chain_refused n
+chain : (a : Result (Profile × Direction) Refusal) (capture : List ℕ) → Chain (coming_as a capture)
+chain (Ok (p, dir)) capture = chain_of p dir capture
+chain (Err e) capture = chain_refused e
 
 none_both : (xs ys : List ℕ) → xs ++ ys ≡ [] → (xs ≡ []) × (ys ≡ [])
 none_both [] ys e = (refl, e)
-none_both (x ∷ xs) ys e = let z : ◌≡◌ {A = ℕ} 0 1 = cc in absurd (omega arith)
+none_both (x ∷ xs) ys e = cc
 
 module _ (lines : Place → List Given) (linked : Chain lines) where
   texts_on : (room : ℕ) (at : Place) (gs : List Given) → lines at ≡ gs → texts gs ≡ (filled room at gs).text ++ texts (lines (filled room at gs).next)
@@ -114,12 +114,12 @@ steps_texts profile dir capture (e ∷ es) =
     ap (λ (xs : List ℕ). event_line profile dir capture e ++ xs) (steps_texts profile dir capture es)
     ∙ sym (append_assoc (event_line profile dir capture e) (event_lines profile dir capture es) (total_line (length capture) (totals_of dir capture)))
 
-whole_as : (a : Asked) (capture : List ℕ) → texts (coming_as a capture place.Start) ≡ listed_as a capture
+whole_as : (a : Result (Profile × Direction) Refusal) (capture : List ℕ) → texts (coming_as a capture place.Start) ≡ listed_as a capture
 unfolding in_order
-whole_as (asks.Listing p dir) capture =
+whole_as (Ok (p, dir)) capture =
     ap (λ (xs : List ℕ). heading ++ xs) (steps_texts p dir capture (events_from dir capture 0))
     ∙ sym (append_assoc heading (event_lines p dir capture (events_from dir capture 0)) (total_line (length capture) (totals_of dir capture)))
-whole_as (asks.Refused n) capture = append-nil (refused_text n)
+whole_as (Err e) capture = append-nil (refused_text e)
 
 whole : (input : List ℕ) → texts (coming_in input place.Start) ≡ listed input
 whole input = whole_as (asked input) (drop 2 input)
@@ -161,10 +161,10 @@ fewer_lines input at room h some = go (coming_in input at) refl
     go (g ∷ gs) e = rw e (let less = lines_less (coming_in input) (chain (asked input) (drop 2 input)) room at g gs h e in omega (arith, less))
 
 -- the same of what `list_piece` answers
-pub answered_fewer : (input : List ℕ) (at : Place) (buf : List ℕ) (count : ℕ) (next : Place) → line_limit ≤ length buf
-    → piece.Text count next ≡ piece_answered input at buf → 0 < count → length (coming_in input next) < length (coming_in input at)
-answered_fewer input at buf count next h e some =
-    let told : piece.Text count next ≡ text_as (piece_of input at (length buf)) = e ∙ rw (le-ltb (length buf) line_limit h) in
-    let counts : count ≡ length (piece_of input at (length buf)).text = cc in
-    let goes : next ≡ (piece_of input at (length buf)).next = cc in
-    rw goes (fewer_lines input at (length buf) h (omega (arith, some, counts)))
+pub answered_fewer : (input : List ℕ) (at : Place) (buf : List ℕ) (piece : Piece) → line_limit ≤ length buf
+    → Ok piece ≡ piece_answered input at buf → 0 < piece.length → length (coming_in input piece.next) < length (coming_in input at)
+answered_fewer input at buf piece h e some =
+    let told : Ok piece ≡ Ok (text_as (piece_of input at (length buf))) = e ∙ rw (le-ltb (length buf) line_limit h) in
+    let same : piece ≡ text_as (piece_of input at (length buf)) = cc in
+    let fewer = fewer_lines input at (length buf) h (omega (arith, some, ap (λ (p : Piece). p.length) same)) in
+    subst (λ (p : Piece). length (coming_in input p.next) < length (coming_in input at)) (sym same) fewer

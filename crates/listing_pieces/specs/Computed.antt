@@ -12,7 +12,6 @@ use Rattle.listing_pieces.specs.Pieces.{Given}
 use Rattle.listing_pieces.specs.declared.event.Shown.{Shown}
 use Rattle.listing_pieces.specs.declared.event.Shown.TheVariants as shown
 use Rattle.listing_pieces.specs.declared.piece.Place.{Place}
-use Rattle.listing_pieces.specs.declared.piece.Place.TheVariants as place
 
 -- a text of at most so many bytes was put at a place: the buffer after it, and the place behind it
 pub record Put (most : ℕ) (buf : List ℕ) (at : ℕ) (text after : List ℕ) (end : ℕ) : Type 0 where
@@ -48,8 +47,3 @@ first_text (g ∷ gs) = g.text
 abbrev pub first_next : Place → List Given → Place
 first_next at [] = at
 first_next at (g ∷ gs) = g.next
-
-abbrev pub is_end : Place → Bool
-is_end place.Start = false
-is_end (place.Event at) = false
-is_end place.End = true

@@ -1,13 +1,14 @@
 -- Document 01: "Where an answer is an enum, a definition gives this paper's number and values for each of its cases."
-use Rattle.std.specs.Prelude.{ℕ}
+use Rattle.std.specs.Prelude.{ℕ, Err, Ok, Result}
+use Rattle.refusals.specs.Refusal.{number}
+use Rattle.refusals.specs.declared.refusal.Refusal.{Refusal}
 use Rattle.listing_pieces.specs.declared.piece.Piece.{Piece}
-use Rattle.listing_pieces.specs.declared.piece.Piece.TheVariants as piece
 
 -- 0 for a piece, and how many bytes it has
-abbrev pub piece_number : Piece → ℕ
-piece_number (piece.Text n next) = 0
-piece_number (piece.Refused n) = n
+abbrev pub piece_number : Result Piece Refusal → ℕ
+piece_number (Ok piece) = 0
+piece_number (Err e) = number e
 
-abbrev pub piece_count : Piece → ℕ
-piece_count (piece.Text n next) = n
-piece_count (piece.Refused n) = 0
+abbrev pub piece_count : Result Piece Refusal → ℕ
+piece_count (Ok piece) = piece.length
+piece_count (Err e) = 0

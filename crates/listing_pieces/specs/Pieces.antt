@@ -1,18 +1,17 @@
 -- The listing in pieces of bounded size: lines as long as there is room for any line, and the place where the next piece goes on.
-use Rattle.std.specs.Prelude.{ℕ, zero, suc, ◌+◌, ◌-◌, cond, List, [], ◌∷◌, ◌++◌, ltb, length, drop}
+use Rattle.std.specs.Prelude.{ℕ, zero, suc, ◌+◌, ◌-◌, cond, List, [], ◌∷◌, ◌++◌, ltb, length, drop, Err, Ok, Result}
 use Rattle.lists.specs.InOrder.{in_order}
 use Rattle.refusals.specs.Rule.{Rule, rule, ruled}
+use Rattle.refusals.specs.declared.refusal.Refusal.{Refusal}
+use Rattle.refusals.specs.declared.refusal.Refusal.TheVariants.{NoRoom}
 use Rattle.lent.specs.Placed.{placed}
 use Rattle.frame.specs.Capture.{totals_of, events_from}
 use Rattle.frame.specs.declared.direction.Direction.{Direction}
 use Rattle.frame.specs.declared.capture.Event.{Event}
 use Rattle.row.specs.declared.profile.Profile.{Profile}
-use Rattle.listing_text.specs.declared.asked.Asked.{Asked}
-use Rattle.listing_text.specs.declared.asked.Asked.TheVariants as asks
 use Rattle.listing_pieces.specs.declared.piece.Place.{Place}
 use Rattle.listing_pieces.specs.declared.piece.Place.TheVariants as place
 use Rattle.listing_pieces.specs.declared.piece.Piece.{Piece}
-use Rattle.listing_pieces.specs.declared.piece.Piece.TheVariants as piece
 use Rattle.listing_text.specs.Listing.{heading, event_line, total_line, refused_text, asked}
 
 -- room for any line
@@ -38,14 +37,14 @@ coming_from profile dir capture place.Start = given heading (place.Event 0) ∷ 
 coming_from profile dir capture (place.Event at) = coming_events profile dir capture (events_from dir capture at)
 coming_from profile dir capture place.End = []
 
-abbrev pub coming_refused : ℕ → Place → List Given
-coming_refused n place.Start = given (refused_text n) place.End ∷ []
-coming_refused n (place.Event at) = []
-coming_refused n place.End = []
+abbrev pub coming_refused : Refusal → Place → List Given
+coming_refused e place.Start = given (refused_text e) place.End ∷ []
+coming_refused e (place.Event at) = []
+coming_refused e place.End = []
 
-abbrev pub coming_as : Asked → List ℕ → Place → List Given
-coming_as (asks.Listing p dir) capture at = coming_from p dir capture at
-coming_as (asks.Refused n) capture at = coming_refused n at
+abbrev pub coming_as : Result (Profile × Direction) Refusal → List ℕ → Place → List Given
+coming_as (Ok (p, dir)) capture at = coming_from p dir capture at
+coming_as (Err e) capture at = coming_refused e at
 
 abbrev pub coming_in : List ℕ → Place → List Given
 coming_in input at = coming_as (asked input) (drop 2 input) at
@@ -62,13 +61,13 @@ piece_of input at room = filled room at (coming_in input at)
 
 -- 9: "the lent buffer has too few bytes"
 abbrev pub no_room_for_line : List ℕ → Rule
-no_room_for_line buf = rule 9 (ltb (length buf) line_limit)
+no_room_for_line buf = rule NoRoom (ltb (length buf) line_limit)
 
 abbrev pub text_as : Given → Piece
-text_as g = piece.Text (length g.text) g.next
+text_as g = record { length = length g.text; next = g.next }
 
-abbrev pub piece_answered : List ℕ → Place → List ℕ → Piece
-piece_answered input at buf = ruled (no_room_for_line buf ∷ []) piece.Refused (text_as (piece_of input at (length buf)))
+abbrev pub piece_answered : List ℕ → Place → List ℕ → Result Piece Refusal
+piece_answered input at buf = ruled (no_room_for_line buf ∷ []) Err (Ok (text_as (piece_of input at (length buf))))
 
 abbrev pub piece_left : List ℕ → Place → List ℕ → List ℕ
 piece_left input at buf = ruled (no_room_for_line buf ∷ []) (λ n. buf) (placed buf 0 (piece_of input at (length buf)).text)

@@ -1,7 +1,10 @@
 -- Document 01, 'Bench frames': what the listing program prints, to the byte.
-use Rattle.std.specs.Prelude.{ℕ, cond, List, [], ◌∷◌, ◌++◌, length, drop}
+use Rattle.std.specs.Prelude.{ℕ, cond, List, [], ◌∷◌, ◌++◌, length, drop, Err, None, Ok, Option, Result, Some}
 use Prim.Native.String.{String}
+use Rattle.refusals.specs.Refusal.{number}
 use Rattle.refusals.specs.Rule.{ruled}
+use Rattle.refusals.specs.declared.refusal.Refusal.{Refusal}
+use Rattle.refusals.specs.declared.refusal.Refusal.TheVariants.{WrongLetter}
 use Rattle.frame.specs.Letter.{direction_of}
 use Rattle.frame.specs.Capture.{long_capture, totals_of, events_from}
 use Rattle.lists.specs.InOrder.{in_order}
@@ -10,24 +13,17 @@ use Rattle.characters.specs.Letters.{letters}
 use Rattle.characters.specs.Decimal.{decimal, integer}
 use Rattle.characters.specs.Hex.{hex_byte}
 use Rattle.frame.specs.declared.direction.Direction.{Direction}
-use Rattle.frame.specs.declared.direction.NamedDirection as direction
-use Rattle.frame.specs.declared.direction.NamedDirection.TheVariants as directed
 use Rattle.frame.specs.declared.capture.Kind.TheVariants as kind
 use Rattle.frame.specs.declared.capture.Kind.{Kind}
 use Rattle.frame.specs.declared.capture.Event.{Event}
 use Rattle.frame.specs.declared.capture.Totals.{Totals}
 use Rattle.row.specs.Profile.{profile_of}
 use Rattle.row.specs.declared.profile.Profile.{Profile}
-use Rattle.row.specs.declared.profile.NamedProfile as profile
-use Rattle.row.specs.declared.profile.NamedProfile.TheVariants as family
 use Rattle.message.specs.Message.{frame_read}
 use Rattle.message.specs.declared.content.Content.{Content}
 use Rattle.message.specs.declared.content.Content.TheVariants.{Request, Up, Down, On, Off, Toggle, LevellerOff, Number, Input}
-use Rattle.message.specs.declared.read.FrameReading.{FrameReading}
-use Rattle.message.specs.declared.read.FrameReading.TheVariants as frame
+use Rattle.message.specs.declared.read.Message.{Message}
 use Rattle.message.specs.declared.read.Message.TheVariants as message
-use Rattle.listing_text.specs.declared.asked.Asked.{Asked}
-use Rattle.listing_text.specs.declared.asked.Asked.TheVariants as asks
 
 -- "F0, F1, F2 print request, up, down (A 37: on, off for the last two), toggle toggle, Leveller FF off, S 0F 6:1"
 abbrev pub value_text : Content → List ℕ
@@ -54,13 +50,13 @@ abbrev pub without : String → List (List ℕ)
 without event = letters event ∷ dash ∷ dash ∷ dash ∷ dash ∷ []
 
 -- "In commands the answer is -"; "A refused frame is event unread, its number as value, dashes between; a denied one is denied with value -."
-abbrev pub read_text : FrameReading → List (List ℕ)
-read_text (frame.Message (message.Command s)) = letters "frame" ∷ decimal s.zone ∷ hex_byte s.command ∷ dash ∷ value_text s.content ∷ []
-read_text (frame.Message (message.Status s)) = letters "frame" ∷ decimal s.zone ∷ hex_byte s.command ∷ hex_byte 0x00 ∷ value_text s.content ∷ []
-read_text (frame.Message (message.Denied d)) = letters "denied" ∷ decimal d.zone ∷ hex_byte d.command ∷ hex_byte d.answer ∷ dash ∷ []
-read_text (frame.Refused n) = letters "unread" ∷ dash ∷ dash ∷ dash ∷ decimal n ∷ []
+abbrev pub read_text : Option (Result Message Refusal) → List (List ℕ)
+read_text (Some (Ok (message.Command s))) = letters "frame" ∷ decimal s.zone ∷ hex_byte s.command ∷ dash ∷ value_text s.content ∷ []
+read_text (Some (Ok (message.Status s))) = letters "frame" ∷ decimal s.zone ∷ hex_byte s.command ∷ hex_byte 0x00 ∷ value_text s.content ∷ []
+read_text (Some (Ok (message.Denied d))) = letters "denied" ∷ decimal d.zone ∷ hex_byte d.command ∷ hex_byte d.answer ∷ dash ∷ []
+read_text (Some (Err e)) = letters "unread" ∷ dash ∷ dash ∷ dash ∷ decimal (number e) ∷ []
 -- no frame event is without a frame
-read_text frame.NotOneFrame = without "broken"
+read_text None = without "broken"
 
 abbrev pub event_text : Profile → Direction → List ℕ → Kind → List (List ℕ)
 event_text profile dir bytes kind.Frame = read_text (frame_read profile dir bytes)
@@ -92,24 +88,24 @@ listing profile dir capture =
     heading ++ event_lines profile dir capture (events_from dir capture 0) ++ total_line (length capture) (totals_of dir capture)
 
 -- "Refused input prints only refused and the number"
-abbrev pub refused_text : ℕ → List ℕ
-refused_text n = text_line (letters "refused") (decimal n ∷ [])
+abbrev pub refused_text : Refusal → List ℕ
+refused_text e = text_line (letters "refused") (decimal (number e) ∷ [])
 
 -- what an input asks for: "Order: 12, then 11, before all others."
-abbrev pub asked_by : profile.NamedProfile → direction.NamedDirection → ℕ → Asked
-asked_by (family.Profile p) (directed.Direction dir) count = ruled (long_capture count ∷ []) asks.Refused (asks.Listing p dir)
-asked_by (family.Profile p) (directed.Refused n) count = asks.Refused n
-asked_by (family.Refused n) named count = asks.Refused n
+abbrev pub asked_by : Result Profile Refusal → Result Direction Refusal → ℕ → Result (Profile × Direction) Refusal
+asked_by (Ok p) (Ok dir) count = ruled (long_capture count ∷ []) Err (Ok (p, dir))
+asked_by (Ok p) (Err e) count = Err e
+asked_by (Err e) named count = Err e
 
 -- "profile letter A or S, direction letter C or R, then the capture"; "a missing letter is 12"
-abbrev pub asked : List ℕ → Asked
-asked [] = asks.Refused 12
-asked (p ∷ []) = asks.Refused 12
+abbrev pub asked : List ℕ → Result (Profile × Direction) Refusal
+asked [] = Err WrongLetter
+asked (p ∷ []) = Err WrongLetter
 asked (p ∷ d ∷ capture) = asked_by (profile_of p) (direction_of d) (length capture)
 
-abbrev pub listed_as : Asked → List ℕ → List ℕ
-listed_as (asks.Listing p dir) capture = listing p dir capture
-listed_as (asks.Refused n) capture = refused_text n
+abbrev pub listed_as : Result (Profile × Direction) Refusal → List ℕ → List ℕ
+listed_as (Ok (p, dir)) capture = listing p dir capture
+listed_as (Err e) capture = refused_text e
 
 -- "The listing program reads standard input": from all of it, all that is printed
 abbrev pub listed : List ℕ → List ℕ

@@ -9,7 +9,8 @@ use Rattle.message.specs.Content.{is_leveller_off, number_code}
 use Rattle.message.specs.declared.content.Content.{Content}
 use Rattle.message.specs.declared.content.Content.TheVariants.{Request, Up, Down, On, Off, Toggle, LevellerOff, Number, Input}
 use Rattle.message.specs.declared.content.Encoded.{Encoded}
-use Rattle.message.specs.declared.content.Encoded.TheVariants.{One, Two, NoCode}
+use Rattle.message.specs.declared.content.Encoded.TheVariants.{One, Two}
+use Rattle.std.specs.Prelude.{None, Option, Some}
 
 abbrev pub value_byte : Direction → Row → ℕ → Bool
 value_byte Command row b = is_setting row b
@@ -19,10 +20,10 @@ abbrev pub in_command : Direction → Bool → Bool
 in_command Command t = t
 in_command Answer t = false
 
-abbrev pub code_fits : Direction → Row → Encoded → Bool
-code_fits dir row (One c) = value_byte dir row c && not (is_leveller_off row c)
-code_fits dir row (Two b c) = false
-code_fits dir row NoCode = false
+abbrev pub code_fits : Direction → Row → Option Encoded → Bool
+code_fits dir row (Some (One c)) = value_byte dir row c && not (is_leveller_off row c)
+code_fits dir row (Some (Two b c)) = false
+code_fits dir row None = false
 
 abbrev pub fits : Direction → Row → Content → Bool
 fits dir row Request = in_command dir row.request

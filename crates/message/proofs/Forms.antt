@@ -10,7 +10,6 @@ use Rattle.row.specs.MinusZero.{is_minus_zero, normal}
 use Rattle.row.specs.Table.{row_of}
 use Rattle.row.specs.declared.profile.Profile.{Profile}
 use Rattle.row.specs.declared.table.Row.{Row}
-use Rattle.row.specs.declared.table.Found.TheVariants as found
 use Rattle.row.proofs.Turned.{minus_zero_promise}
 use Rattle.judging.specs.Judge.{has_data}
 use Rattle.message.specs.Content.{content_of, encoded_of, encoded_data, form_number, is_form}
@@ -20,6 +19,7 @@ use Rattle.message.proofs.Fits.{fits}
 use Rattle.message.proofs.Tidy.{row_tidy}
 use Rattle.message.proofs.Says.{data_says, normal_says}
 use Rattle.message.proofs.Written.{writes}
+use Rattle.std.specs.Prelude.{Some}
 
 -- data that say a form whose data stand for them
 said_form : (dir : Direction) (row : Row) (body turned : List ℕ) → encoded_data (encoded_of row (content_of dir row body)) ≡ turned
@@ -33,7 +33,7 @@ all_turned row [] = tt
 all_turned row (b ∷ body) = (minus_zero_promise.again row b, all_turned row body)
 
 -- a form's data stand for themselves
-form_turned : (profile : Profile) (command : ℕ) (row : Row) (dir : Direction) (content : Content) → row_of profile command ≡ found.Row row → is_form dir row content ≡ true
+form_turned : (profile : Profile) (command : ℕ) (row : Row) (dir : Direction) (content : Content) → row_of profile command ≡ Some row → is_form dir row content ≡ true
     → encoded_data (encoded_of row content) ≡ map (normal row) (encoded_data (encoded_of row content))
 form_turned profile command row dir content e form =
     let w = writes dir row content form in
@@ -51,7 +51,7 @@ form_promise = record {
 }
 
 -- a form of the row is one that the row has what it takes for
-pub form_fits : (profile : Profile) (command : ℕ) (row : Row) (dir : Direction) (content : Content) → row_of profile command ≡ found.Row row → is_form dir row content ≡ true
+pub form_fits : (profile : Profile) (command : ℕ) (row : Row) (dir : Direction) (content : Content) → row_of profile command ≡ Some row → is_form dir row content ≡ true
     → fits dir row content ≡ true
 form_fits profile command row dir content e form =
     let w = writes dir row content form in

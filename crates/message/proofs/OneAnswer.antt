@@ -6,7 +6,6 @@ use Rattle.lent.specs.Written.{write_answered, write_left}
 use Rattle.fields.specs.Fields.{data_of}
 use Rattle.refusals.specs.OneAnswer.{OneAnswer}
 use Rattle.frame.specs.declared.direction.Direction.{Direction}
-use Rattle.lent.specs.declared.written.Written.{Written}
 use Rattle.refusals.proofs.One.{one, one_lent}
 use Rattle.row.specs.declared.profile.Profile.{Profile}
 use Rattle.row.specs.declared.table.Row.{Row}
@@ -16,10 +15,13 @@ use Rattle.message.specs.Content.{content_of, encoded_of, encoded_data, size_of,
 use Rattle.judging.specs.Judge.{value_refusal}
 use Rattle.message.specs.declared.content.Content.{Content}
 use Rattle.message.specs.declared.read.Message.{Message}
+use Rattle.std.specs.Prelude.{Result}
+use Rattle.refusals.specs.declared.refusal.Refusal.{Refusal}
+use Rattle.fields.specs.declared.fields.Fields.{Fields}
 
-pub read_message_one : (profile : Profile) (direction : Direction) (zone command answer : ℕ) (body : List ℕ)
-    → OneAnswer (λ x. x ≡ read_of profile direction zone command answer body)
-read_message_one profile direction zone command answer body = one (read_of profile direction zone command answer body)
+pub read_message_one : (profile : Profile) (direction : Direction) (fields : Fields) (body : List ℕ)
+    → OneAnswer (λ x. x ≡ read_of profile direction fields.zone fields.command fields.answer body)
+read_message_one profile direction fields body = one (read_of profile direction fields.zone fields.command fields.answer body)
 
 pub read_frame_one : (profile : Profile) (direction : Direction) (bytes : List ℕ) → OneAnswer (λ x. x ≡ frame_read profile direction bytes)
 read_frame_one profile direction bytes = one (frame_read profile direction bytes)
@@ -45,12 +47,12 @@ pub form_refusal_one : (direction : Direction) (row : Row) (content : Content)
 form_refusal_one direction row content = one (value_refusal direction row (encoded_data (encoded_of row content)))
 
 pub write_message_one : (profile : Profile) (buf : List ℕ) (at : ℕ) (message : Message) (body : List ℕ)
-    → OneAnswer (λ (x : Written × List ℕ). (x.0 ≡ write_answered (write_rules profile message body) buf at (message_frame profile message body)) × (x.1 ≡ write_left (write_rules profile message body) buf at (message_frame profile message body)))
+    → OneAnswer (λ (x : Result ℕ Refusal × List ℕ). (x.0 ≡ write_answered (write_rules profile message body) buf at (message_frame profile message body)) × (x.1 ≡ write_left (write_rules profile message body) buf at (message_frame profile message body)))
 write_message_one profile buf at message body = one_lent (write_answered (write_rules profile message body) buf at (message_frame profile message body)) (write_left (write_rules profile message body) buf at (message_frame profile message body))
 
-pub write_fields_one : (profile : Profile) (direction : Direction) (buf : List ℕ) (at zone command answer : ℕ) (body : List ℕ)
-    → OneAnswer (λ (x : Written × List ℕ). (x.0 ≡ write_answered (read_rules profile direction zone command answer body) buf at (fields_frame profile direction zone command answer body)) × (x.1 ≡ write_left (read_rules profile direction zone command answer body) buf at (fields_frame profile direction zone command answer body)))
-write_fields_one profile direction buf at zone command answer body =
-    one_lent (write_answered (read_rules profile direction zone command answer body) buf at (fields_frame profile direction zone command answer body)) (write_left (read_rules profile direction zone command answer body) buf at (fields_frame profile direction zone command answer body))
-
--- of the rows below
+pub write_fields_one : (profile : Profile) (direction : Direction) (fields : Fields) (body buf : List ℕ) (at : ℕ)
+    → OneAnswer (λ (x : Result ℕ Refusal × List ℕ). (x.0 ≡ write_answered (read_rules profile direction fields.zone fields.command fields.answer body) buf at (fields_frame profile direction fields.zone fields.command fields.answer body))
+    × (x.1 ≡ write_left (read_rules profile direction fields.zone fields.command fields.answer body) buf at (fields_frame profile direction fields.zone fields.command fields.answer body)))
+write_fields_one profile direction fields body buf at =
+    one_lent (write_answered (read_rules profile direction fields.zone fields.command fields.answer body) buf at (fields_frame profile direction fields.zone fields.command fields.answer body))
+    (write_left (read_rules profile direction fields.zone fields.command fields.answer body) buf at (fields_frame profile direction fields.zone fields.command fields.answer body))

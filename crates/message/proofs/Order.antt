@@ -3,7 +3,6 @@ use mathlib.Core.Path.{◌≡◌, refl, ap, sym, ◌∙◌}
 use mathlib.Core.List.{List}
 use mathlib.Core.Logic.{◌⊎◌, inl, inr}
 use Prim.Native.Nat.{ℕ}
-use native.Mathlib.Omega.{arith}
 use borrow.Author.Tests.{ne_eqb}
 use Rattle.refusals.specs.Rule.{Rule}
 use Rattle.fields.specs.Fields.{fields_in, data_of}
@@ -22,39 +21,37 @@ use Rattle.message.specs.OrderPromise.{OrderPromise}
 use Rattle.message.specs.MessageWritePromise.{MessageWritePromise}
 use Rattle.message.specs.MessageRefusalPromise.{MessageRefusalPromise}
 use Rattle.message.specs.declared.read.Message.{Message}
-use Rattle.message.specs.declared.read.FrameReading.{FrameReading}
-use Rattle.message.specs.declared.read.FrameReading.TheVariants as frame-reading
-use Rattle.message.specs.declared.read.Reading.{Reading}
-use Rattle.message.specs.declared.read.Reading.TheVariants as reading
+use Rattle.std.specs.Prelude.{Err, None, Ok, Option, Result, Some}
+use Rattle.refusals.specs.declared.refusal.Refusal.{Refusal}
 
 module _ (profile : Profile) (dir : Direction) (zone command ac : ℕ) (body : List ℕ) where
   abbrev rules : List Rule
   rules = read_rules profile dir zone command ac body
 
-  refused : (n : ℕ) → FirstApplies rules n → read_of profile dir zone command ac body ≡ reading.Refused n
+  refused : (n : Refusal) → FirstApplies rules n → read_of profile dir zone command ac body ≡ Err n
   unfolding read_of
-  refused n w = rule_promise.refused rules n w reading.Refused (message_of profile dir zone command ac body)
+  refused n w = rule_promise.refused rules n w Err (message_of profile dir zone command ac body)
 
-  read : NoneApplies rules → (m : Message) × (read_of profile dir zone command ac body ≡ reading.Message m) × (message_of profile dir zone command ac body ≡ reading.Message m)
+  read : NoneApplies rules → (m : Message) × (read_of profile dir zone command ac body ≡ Ok m) × (message_of profile dir zone command ac body ≡ Ok m)
   read w = passed_message profile dir zone command ac body (none_refuses rules w)
 
-  differ : {X : Type 0} (m : Message) (n : ℕ) → reading.Message m ≡ reading.Refused n → X
-  differ m n e = let z : ◌≡◌ {A = ℕ} 0 1 = cc in absurd (omega arith)
+  differ : {X : Type 0} (m : Message) (n : Refusal) → Ok m ≡ Err n → X
+  differ m n e = cc
 
-  applies : (n : ℕ) → read_of profile dir zone command ac body ≡ reading.Refused n → FirstApplies rules n
+  applies : (n : Refusal) → read_of profile dir zone command ac body ≡ Err n → FirstApplies rules n
   applies n e = go (rule_promise.either rules)
     where
-      same : (k : ℕ) → reading.Refused k ≡ reading.Refused n → k ≡ n
+      same : (k : Refusal) → ◌≡◌ {A = Result Message Refusal} (Err k) (Err n) → k ≡ n
       same k f = cc
 
-      go : ((k : ℕ) × FirstApplies rules k) ⊎ NoneApplies rules → FirstApplies rules n
+      go : ((k : Refusal) × FirstApplies rules k) ⊎ NoneApplies rules → FirstApplies rules n
       go (inl w) = let k : w.0 ≡ n = same w.0 (sym (refused w.0 w.1) ∙ e) in rw k at w.1
       go (inr w) = differ _ n (sym (read w).1 ∙ e)
 
-  none : (m : Message) → read_of profile dir zone command ac body ≡ reading.Message m → NoneApplies rules
+  none : (m : Message) → read_of profile dir zone command ac body ≡ Ok m → NoneApplies rules
   none m e = go (rule_promise.either rules)
     where
-      go : ((k : ℕ) × FirstApplies rules k) ⊎ NoneApplies rules → NoneApplies rules
+      go : ((k : Refusal) × FirstApplies rules k) ⊎ NoneApplies rules → NoneApplies rules
       go (inl w) = differ m w.0 (sym e ∙ refused w.0 w.1)
       go (inr w) = w
 
@@ -68,14 +65,14 @@ message_write_promise = record {
 }
 
 -- what was refused has no fields
-no_fields : (profile : Profile) (r : Reading) (body : List ℕ) → (reading_number r ≡ 0 → ⊥) → reading_paper profile r body ≡ zero_paper
-no_fields profile (reading.Message m) body e = absurd (e refl)
-no_fields profile (reading.Refused n) body e = refl
+no_fields : (profile : Profile) (r : Result Message Refusal) (body : List ℕ) → (reading_number r ≡ 0 → ⊥) → reading_paper profile r body ≡ zero_paper
+no_fields profile (Ok m) body e = absurd (e refl)
+no_fields profile (Err n) body e = refl
 
-no_frame_fields : (profile : Profile) (r : FrameReading) (body : List ℕ) → (frame_number r ≡ 0 → ⊥) → frame_paper profile r body ≡ zero_paper
-no_frame_fields profile (frame-reading.Message m) body e = absurd (e refl)
-no_frame_fields profile (frame-reading.Refused n) body e = refl
-no_frame_fields profile frame-reading.NotOneFrame body e = refl
+no_frame_fields : (profile : Profile) (r : Option (Result Message Refusal)) (body : List ℕ) → (frame_number r ≡ 0 → ⊥) → frame_paper profile r body ≡ zero_paper
+no_frame_fields profile (Some (Ok m)) body e = absurd (e refl)
+no_frame_fields profile (Some (Err n)) body e = refl
+no_frame_fields profile None body e = refl
 
 pub refusal_promise : MessageRefusalPromise
 unfolding profile_of
@@ -83,10 +80,10 @@ refusal_promise = record {
   letter = λ l a s. rw (ne_eqb l 0x41 a, ne_eqb l 0x53 s);
   named = (refl, refl);
   paper = λ profile dir zone command ac body m e.
-      (ap reading_number e, ap (λ (r : Reading). reading_paper profile r body) e ∙ paper_of_lem profile dir zone command ac body m e);
+      (ap reading_number e, ap (λ (r : Result Message Refusal). reading_paper profile r body) e ∙ paper_of_lem profile dir zone command ac body m e);
   paper_of_frame = λ profile dir bytes m e.
       let b = frame_brings profile dir bytes m e in
-      (fields_in dir bytes, b.0, ap frame_number e, ap (λ (r : FrameReading). frame_paper profile r (data_of dir bytes)) e ∙ b.1);
+      (fields_in dir bytes, b.0, ap frame_number e, ap (λ (r : Option (Result Message Refusal)). frame_paper profile r (data_of dir bytes)) e ∙ b.1);
   frame_zero = λ profile dir bytes body. no_frame_fields profile (frame_read profile dir bytes) body;
   zero = λ profile dir zone command ac body. no_fields profile (read_of profile dir zone command ac body) body;
 }

@@ -14,7 +14,6 @@ use Rattle.frame.specs.declared.direction.Direction.TheVariants.{Command, Answer
 use Rattle.frame.proofs.Cases.{cases}
 use Rattle.row.specs.MinusZero.{normal}
 use Rattle.row.specs.Signed.{number_of}
-use Rattle.row.specs.declared.signed.Coded.{Coded}
 use Rattle.row.specs.declared.table.Row.{Row}
 use Rattle.row.proofs.Turned.{by_zero, minus_zero_promise}
 use Rattle.judging.specs.Judge.{is_answer, is_pair, is_word, has_length, has_byte, has_value, has_data}
@@ -25,6 +24,7 @@ use Rattle.message.specs.declared.content.Content.TheVariants.{Up, Down, On, Off
 use Rattle.lists.proofs.Tests.{both, former, by_value}
 use Rattle.message.proofs.Tidy.{Tidy}
 use Rattle.message.proofs.Codes.{number_coded}
+use Rattle.std.specs.Prelude.{Option}
 
 -- the row has what it takes for what is said, and `body` are its data, or would be with 00 for minus zero
 abbrev pub Says : Direction → Row → List ℕ → Content → Type 0
@@ -63,7 +63,7 @@ module _ (row : Row) where
       number e =
           let code = number_coded row b (tidy.byte b v) in
           let number : is_leveller_off row (normal row b) ≡ false = by_zero row b (λ c n. is_leveller_off row c ≡ false → is_leveller_off row n ≡ false) (λ s f. refl) (λ f g. g) e in
-          (ap (λ (x : Coded). code_fits dir row (encoded_code x)) code ∙ rw (tidy.turned b v, number), ap (λ (x : Coded). encoded_data (encoded_code x)) code)
+          (ap (λ (x : Option ℕ). code_fits dir row (encoded_code x)) code ∙ rw (tidy.turned b v, number), ap (λ (x : Option ℕ). encoded_data (encoded_code x)) code)
 
   byte_says : (dir : Direction) → Tidy dir row → (b : ℕ) → has_byte dir row b ≡ true → Says dir row (b ∷ []) (byte_content dir row b)
   byte_says Command tidy b e = cases (Says Command row (b ∷ [])) (is_word row b) (word_says b) (λ f. value_says Command tidy b (former _ _ e f))

@@ -14,12 +14,12 @@ use Rattle.row.specs.Profile.{letter_of}
 use Rattle.row.specs.Table.{table, row_of}
 use Rattle.row.specs.declared.profile.Profile.{Profile}
 use Rattle.row.specs.declared.table.Codes.{Codes}
-use Rattle.row.specs.declared.table.Found.TheVariants as found
 use Rattle.row.specs.declared.table.Row.{Row}
 use Rattle.row.proofs.Rows.{each_found}
 use Rattle.judging.specs.Judge.{within, is_word}
 use Rattle.message.proofs.Fits.{value_byte, in_command}
 use Rattle.lists.proofs.Tests.{both, upto, upto_at}
+use Rattle.std.specs.Prelude.{Some}
 
 pub record Tidy (dir : Direction) (row : Row) : Type 0 where
   -- a value is a byte and no word of the row, and what it is turned into is a value; a row of pairs is not signed
@@ -86,7 +86,7 @@ each_of : (test : Row → Bool) (rows : List Row) → every test rows ≡ true �
 each_of test [] e = tt
 each_of test (row ∷ rows) e = let (here, rest) = both (test row) (every test rows) e in (here, each_of test rows rest)
 
-pub row_passes : (test : Row → Bool) → every test table ≡ true → (profile : Profile) (command : ℕ) (row : Row) → row_of profile command ≡ found.Row row → test row ≡ true
+pub row_passes : (test : Row → Bool) → every test table ≡ true → (profile : Profile) (command : ℕ) (row : Row) → row_of profile command ≡ Some row → test row ≡ true
 row_passes test all profile command row e = each_found (λ r. test r ≡ true) table (letter_of profile) command row (each_of test table all) e
 
 all_tidy : (dir : Direction) → every (tidy dir) table ≡ true
@@ -94,5 +94,5 @@ unfolding table upto
 all_tidy Command = refl
 all_tidy Answer = refl
 
-pub row_tidy : (profile : Profile) (command : ℕ) (row : Row) → row_of profile command ≡ found.Row row → (dir : Direction) → Tidy dir row
+pub row_tidy : (profile : Profile) (command : ℕ) (row : Row) → row_of profile command ≡ Some row → (dir : Direction) → Tidy dir row
 row_tidy profile command row e dir = tidy_says dir row (row_passes (tidy dir) (all_tidy dir) profile command row e)

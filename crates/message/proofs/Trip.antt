@@ -5,7 +5,6 @@ use mathlib.Core.Bool.{Bool, true, false, cond, not, ◌||◌, or-true}
 use mathlib.Core.List.{List, [], ◌∷◌, map}
 use mathlib.Core.Logic.{◌⊎◌, inl, inr}
 use Prim.Native.Nat.{ℕ, ◌+◌, ◌≤◌}
-use native.Mathlib.Omega.{arith}
 use borrow.Author.Tests.{not-false, eqb-true}
 use lib.Dec.{eqb}
 use lib.IntN.{pos}
@@ -18,9 +17,7 @@ use Rattle.fields.specs.Raw.{too_long}
 use Rattle.fields.specs.Fields.{is_frame, answer_in, fields_in, data_in, fields_of, data_of, answer_kept}
 use Rattle.frame.specs.declared.direction.Direction.{Direction}
 use Rattle.fields.specs.declared.fields.Fields.{Fields}
-use Rattle.fields.specs.declared.fields.Brought.TheVariants as brings
 use Rattle.frame.specs.declared.direction.Direction.TheVariants.{Command, Answer}
-use Rattle.lent.specs.declared.written.Written.TheVariants as written
 use Rattle.refusals.proofs.Ruled.{refuses, was_accepted, accepted_by, or_false, pass_first, pass_both}
 use Rattle.fields.proofs.Back.{frame_promise, placed_found, placed_bytes_lem}
 use Rattle.fields.proofs.Again.{frame_again}
@@ -28,8 +25,6 @@ use Rattle.row.specs.MinusZero.{normal, normal_in}
 use Rattle.row.specs.Table.{row_of}
 use Rattle.row.specs.declared.profile.Profile.{Profile}
 use Rattle.row.specs.declared.table.Row.{Row}
-use Rattle.row.specs.declared.table.Found.{Found}
-use Rattle.row.specs.declared.table.Found.TheVariants as found
 use Rattle.row.proofs.Turned.{minus_zero_promise}
 use Rattle.judging.specs.Judge.{has_length, has_value, judge_rules}
 use Rattle.judging.proofs.Judges.{lies_refuses, pass_row, judge_passes, passes_judge}
@@ -44,27 +39,26 @@ use Rattle.message.specs.declared.content.Content.{Content}
 use Rattle.message.specs.declared.content.Content.TheVariants.{Number}
 use Rattle.message.specs.declared.read.Message.{Message}
 use Rattle.message.specs.declared.read.Message.TheVariants as message
-use Rattle.message.specs.declared.read.Reading.{Reading}
-use Rattle.message.specs.declared.read.Reading.TheVariants as reading
-use Rattle.message.specs.declared.read.FrameReading.TheVariants as frame
 use Rattle.lists.proofs.Tests.{both}
 use Rattle.message.proofs.Forms.{form_promise}
 use Rattle.message.proofs.Written.{data_size, form_refuses}
 use Rattle.message.proofs.Readings.{frame_some}
 use Rattle.message.proofs.Says.{zero_content, zero_or_same}
 use Rattle.message.proofs.Tidy.{row_tidy}
+use Rattle.std.specs.Prelude.{Err, None, Ok, Option, Result, Some}
+use Rattle.refusals.specs.declared.refusal.Refusal.{Refusal}
 
 -- what is said in a row, and data that say it
 record Sayable (profile : Profile) (dir : Direction) (zone command : ℕ) (c : Content) (body : List ℕ) : Type 0 where
   row : Row
-  there : row_of profile command ≡ found.Row row
+  there : row_of profile command ≡ Some row
   judges : refuses (judge_rules profile dir zone command body) ≡ false
   says : refuses (said_rules profile dir zone command c) ≡ false
   means : content.content_of dir row body ≡ c
 
 module _ (profile : Profile) (dir : Direction) (zone command : ℕ) where
-  data_in_lem : (row : Row) (c : Content) → row_of profile command ≡ found.Row row → said_data profile command c ≡ content.encoded_data (content.encoded_of row c)
-  data_in_lem row c e = ap (λ (f : Found). said_in f c) e
+  data_in_lem : (row : Row) (c : Content) → row_of profile command ≡ Some row → said_data profile command c ≡ content.encoded_data (content.encoded_of row c)
+  data_in_lem row c e = ap (λ (f : Option Row). said_in f c) e
 
   -- what is said has data that are judged legal, and say it
   say_judge : (c : Content) → refuses (said_rules profile dir zone command c) ≡ false → Sayable profile dir zone command c (said_data profile command c)
@@ -104,12 +98,12 @@ module _ (profile : Profile) (dir : Direction) (zone command : ℕ) where
           says = lies_refuses profile zone command p.row p.lies (form_rules dir c) ∙ form_refuses dir p.row c ∙ rw (long, form);
           means = refl;
         },
-        data_in_lem p.row c there ∙ r.1 ∙ ap (λ (f : Found). map (normal_in f) body) (sym there),
+        data_in_lem p.row c there ∙ r.1 ∙ ap (λ (f : Option Row). map (normal_in f) body) (sym there),
       )
 
 -- the message of a row that is found
-in_row : (f : Found) (row : Row) (means : Row → Message) → f ≡ found.Row row → message_in f means ≡ reading.Message (means row)
-in_row f row means e = ap (λ (x : Found). message_in x means) e
+in_row : (f : Option Row) (row : Row) (means : Row → Message) → f ≡ Some row → message_in f means ≡ Ok (means row)
+in_row f row means e = ap (λ (x : Option Row). message_in x means) e
 
 -- a frame of fields and data, read
 frame_reads : (profile : Profile) (dir : Direction) (zone command ac : ℕ) (body : List ℕ)
@@ -123,34 +117,34 @@ frame_reads profile dir zone command ac body =
 read_passed : (profile : Profile) (dir : Direction) (zone command ac : ℕ) (body : List ℕ) → refuses (read_rules profile dir zone command ac body) ≡ false
     → read_of profile dir zone command ac body ≡ message_of profile dir zone command ac body
 unfolding read_of
-read_passed profile dir zone command ac body e = accepted_by (read_rules profile dir zone command ac body) reading.Refused _ e
+read_passed profile dir zone command ac body e = accepted_by (read_rules profile dir zone command ac body) Err _ e
 
 denied_rules : (ac : ℕ) (body : List ℕ) → refuses (not_denied ac ∷ too_long body ∷ []) ≡ false → (is_denial ac ≡ true) × (refuses (too_long body ∷ []) ≡ false)
 denied_rules ac body e = let p = pass_first (not_denied ac) (too_long body ∷ []) e in (not-false _ p.0, p.1)
 
 module _ (profile : Profile) where
-  reads : (m : Message) (body : List ℕ) → refuses (write_rules profile m body) ≡ false → frame_read profile (message_direction m) (message_frame profile m body) ≡ frame.Message m
+  reads : (m : Message) (body : List ℕ) → refuses (write_rules profile m body) ≡ false → frame_read profile (message_direction m) (message_frame profile m body) ≡ Some (Ok m)
   reads (message.Command s) body e =
       let j = say_judge profile Command s.zone s.command s.content e in
       let d = said_data profile s.command s.content in
       frame_reads profile Command s.zone s.command 0 d
       ∙ ap from_reading (read_passed profile Command s.zone s.command 0 d j.judges ∙ in_row (row_of profile s.command) j.row _ j.there)
-      ∙ ap (λ (c : Content). frame.Message (message.Command (record { zone = s.zone; command = s.command; content = c }))) j.means
+      ∙ ap (λ (c : Content). Some (Ok (message.Command (record { zone = s.zone; command = s.command; content = c })))) j.means
   reads (message.Status s) body e =
       let j = say_judge profile Answer s.zone s.command s.content e in
       let d = said_data profile s.command s.content in
       frame_reads profile Answer s.zone s.command 0 d
       ∙ ap from_reading (read_passed profile Answer s.zone s.command 0 d j.judges ∙ in_row (row_of profile s.command) j.row _ j.there)
-      ∙ ap (λ (c : Content). frame.Message (message.Status (record { zone = s.zone; command = s.command; content = c }))) j.means
+      ∙ ap (λ (c : Content). Some (Ok (message.Status (record { zone = s.zone; command = s.command; content = c })))) j.means
   reads (message.Denied d) body e =
       let p = denied_rules d.answer body e in
-      let is : message_of profile Answer d.zone d.command d.answer body ≡ reading.Message (message.Denied d) = rw p.0 in
+      let is : message_of profile Answer d.zone d.command d.answer body ≡ Ok (message.Denied d) = rw p.0 in
       frame_reads profile Answer d.zone d.command d.answer body
       ∙ ap from_reading (read_passed profile Answer d.zone d.command d.answer body (rw (p.0, or-true) p.1) ∙ is)
 
 -- the frame of fields and data, written where the rules let it, reads back
 reads_back : (profile : Profile) (dir : Direction) (rules : List Rule) (buf : List ℕ) (at zone command ac : ℕ) (given : List ℕ) (m : Message) (body : List ℕ) (n : ℕ)
-    → write_answered rules buf at (frame_of dir zone command ac given) ≡ written.Bytes n
+    → write_answered rules buf at (frame_of dir zone command ac given) ≡ Ok n
     → ReadsAs profile dir (frame_of dir zone command ac given) m body
     → ReadsBack profile dir (write_left rules buf at (frame_of dir zone command ac given)) at n m body
 reads_back profile dir rules buf at zone command ac given m body n e reads_so =
@@ -165,7 +159,7 @@ reads_back profile dir rules buf at zone command ac given m body n e reads_so =
     }
 
 message_back : (profile : Profile) (buf : List ℕ) (at : ℕ) (m : Message) (body : List ℕ) (n : ℕ)
-    → write_answered (write_rules profile m body) buf at (message_frame profile m body) ≡ written.Bytes n
+    → write_answered (write_rules profile m body) buf at (message_frame profile m body) ≡ Ok n
     → ReadsBack profile (message_direction m) (write_left (write_rules profile m body) buf at (message_frame profile m body)) at n m body
 message_back profile buf at (message.Command s) body n e =
     let rules = write_rules profile (message.Command s) body in
@@ -196,13 +190,13 @@ pub record Again (profile : Profile) (dir : Direction) (zone command ac : ℕ) (
   paper : message_paper profile m body ≡ paper_of zone command (answer_kept dir ac) (data_read profile dir command ac body)
 
 again_of : (profile : Profile) (dir : Direction) (zone command ac : ℕ) (body : List ℕ) → refuses (read_rules profile dir zone command ac body) ≡ false
-    → (m : Message) × (message_of profile dir zone command ac body ≡ reading.Message m) × Again profile dir zone command ac body m
+    → (m : Message) × (message_of profile dir zone command ac body ≡ Ok m) × Again profile dir zone command ac body m
 unfolding frame_of
 again_of profile Command zone command ac body e =
     let (c, j, load) = judge_say profile Command zone command body e in (
       message.Command (record { zone = zone; command = command; content = c }),
       in_row (row_of profile command) j.row _ j.there
-          ∙ ap (λ (x : Content). reading.Message (message.Command (record { zone = zone; command = command; content = x }))) j.means,
+          ∙ ap (λ (x : Content). Ok (message.Command (record { zone = zone; command = command; content = x }))) j.means,
       record {
         way = refl;
         rules = j.says;
@@ -218,7 +212,7 @@ again_of profile Answer zone command ac body e = go (is_denial ac) refl (pass_fi
 
     go : (t : Bool) → is_denial ac ≡ t → (not (eqb ac 0x00 || is_denial ac) ≡ false) × (refuses (cond t (too_long body ∷ []) (judge_rules profile Answer zone command body)) ≡ false)
         → (m : Message)
-        × (cond t (reading.Message (message.Denied (denial zone command ac))) (message_in (row_of profile command) (λ row. message.Status (said Answer row zone command body))) ≡ reading.Message m)
+        × (cond t (Ok (message.Denied (denial zone command ac))) (message_in (row_of profile command) (λ row. message.Status (said Answer row zone command body))) ≡ Ok m)
         × Again profile Answer zone command ac body m
     go true d p =
         let load : body ≡ data_read profile Answer command ac body = rw d in (
@@ -237,7 +231,7 @@ again_of profile Answer zone command ac body e = go (is_denial ac) refl (pass_fi
         let code : ac ≡ 0 = eqb-true ac 0 (zero_code (eqb ac 0x00) (rw d at p.0)) in (
           message.Status (record { zone = zone; command = command; content = c }),
           in_row (row_of profile command) j.row _ j.there
-              ∙ ap (λ (x : Content). reading.Message (message.Status (record { zone = zone; command = command; content = x }))) j.means,
+              ∙ ap (λ (x : Content). Ok (message.Status (record { zone = zone; command = command; content = x }))) j.means,
           record {
             way = refl;
             rules = j.says;
@@ -248,24 +242,24 @@ again_of profile Answer zone command ac body e = go (is_denial ac) refl (pass_fi
 
 -- what passes is a message
 pub passed_message : (profile : Profile) (dir : Direction) (zone command ac : ℕ) (body : List ℕ) → refuses (read_rules profile dir zone command ac body) ≡ false
-    → (m : Message) × (read_of profile dir zone command ac body ≡ reading.Message m) × (message_of profile dir zone command ac body ≡ reading.Message m)
+    → (m : Message) × (read_of profile dir zone command ac body ≡ Ok m) × (message_of profile dir zone command ac body ≡ Ok m)
 passed_message profile dir zone command ac body e =
     let a = again_of profile dir zone command ac body e in (a.0, read_passed profile dir zone command ac body e ∙ a.1, a.1)
 
 -- what is read as a message passes, and is written again
-pub read_passes : (profile : Profile) (dir : Direction) (zone command ac : ℕ) (body : List ℕ) (m : Message) → read_of profile dir zone command ac body ≡ reading.Message m
-    → (refuses (read_rules profile dir zone command ac body) ≡ false) × (message_of profile dir zone command ac body ≡ reading.Message m)
+pub read_passes : (profile : Profile) (dir : Direction) (zone command ac : ℕ) (body : List ℕ) (m : Message) → read_of profile dir zone command ac body ≡ Ok m
+    → (refuses (read_rules profile dir zone command ac body) ≡ false) × (message_of profile dir zone command ac body ≡ Ok m)
 unfolding read_of
 read_passes profile dir zone command ac body m e =
-    was_accepted (read_rules profile dir zone command ac body) reading.Refused (message_of profile dir zone command ac body) (reading.Message m) e differ
+    was_accepted (read_rules profile dir zone command ac body) Err (message_of profile dir zone command ac body) (Ok m) e differ
   where
-    differ : (n : ℕ) → reading.Refused n ≡ reading.Message m → ⊥
-    differ n f = let z : ◌≡◌ {A = ℕ} 0 1 = cc in omega arith
+    differ : (n : Refusal) → Err n ≡ Ok m → ⊥
+    differ n f = cc
 
-same_message : (k m : Message) → reading.Message k ≡ reading.Message m → k ≡ m
+same_message : (k m : Message) → ◌≡◌ {A = Result Message Refusal} (Ok k) (Ok m) → k ≡ m
 same_message k m e = cc
 
-pub was_read : (profile : Profile) (dir : Direction) (zone command ac : ℕ) (body : List ℕ) (m : Message) → read_of profile dir zone command ac body ≡ reading.Message m
+pub was_read : (profile : Profile) (dir : Direction) (zone command ac : ℕ) (body : List ℕ) (m : Message) → read_of profile dir zone command ac body ≡ Ok m
     → Again profile dir zone command ac body m
 was_read profile dir zone command ac body m e =
     let w = read_passes profile dir zone command ac body m e in
@@ -273,7 +267,7 @@ was_read profile dir zone command ac body m e =
     subst (λ (x : Message). Again profile dir zone command ac body x) (same_message a.0 m (sym a.1 ∙ w.1)) a.2
 
 -- a message that was read has the fields that it was read from
-pub paper_of_lem : (profile : Profile) (dir : Direction) (zone command ac : ℕ) (body : List ℕ) (m : Message) → read_of profile dir zone command ac body ≡ reading.Message m
+pub paper_of_lem : (profile : Profile) (dir : Direction) (zone command ac : ℕ) (body : List ℕ) (m : Message) → read_of profile dir zone command ac body ≡ Ok m
     → message_paper profile m body ≡ paper_of zone command (answer_kept dir ac) (data_read profile dir command ac body)
 paper_of_lem profile dir zone command ac body m e = (was_read profile dir zone command ac body m e).paper
 
@@ -289,7 +283,7 @@ as_written : (profile : Profile) (dir : Direction) (zone command ac : ℕ) (body
 as_written profile dir zone command ac body m a =
     let d = data_read profile dir command ac body in
     record {
-      message = ap (frame_read profile dir) (sym a.frame) ∙ subst (λ (x : Direction). frame_read profile x (message_frame profile m body) ≡ frame.Message m) a.way (reads profile m body a.rules);
+      message = ap (frame_read profile dir) (sym a.frame) ∙ subst (λ (x : Direction). frame_read profile x (message_frame profile m body) ≡ Some (Ok m)) a.way (reads profile m body a.rules);
       load = ap (denied_data m) (frame_promise.brought dir zone command ac d).load ∙ denied_load profile m zone command (answer_kept dir ac) body d a.paper;
     }
 
@@ -311,10 +305,10 @@ zero_or_kept profile dir zone command ac body e = go (is_denying dir ac) refl
         let there = p.lies.there in
         by_data p.row there (zero_or_same p.row dir (row_tidy profile command p.row there dir) body (rw p.long p.value))
       where
-        by_data : (row : Row) → row_of profile command ≡ found.Row row → ((body ≡ 0x80 ∷ []) × (row.signed ≡ true)) ⊎ (map (normal row) body ≡ body)
+        by_data : (row : Row) → row_of profile command ≡ Some row → ((body ≡ 0x80 ∷ []) × (row.signed ≡ true)) ⊎ (map (normal row) body ≡ body)
             → FieldsAreMinusZero profile dir command ac body ⊎ (map (normal_in (row_of profile command)) body ≡ body)
         by_data row there (inl (load, s)) = inl (record { row = row; there = there; zero = s; load = load; accepts = d })
-        by_data row there (inr same) = inr (ap (λ (f : Found). map (normal_in f) body) there ∙ same)
+        by_data row there (inr same) = inr (ap (λ (f : Option Row). map (normal_in f) body) there ∙ same)
 
 read_long : (profile : Profile) (dir : Direction) (command ac : ℕ) (body : List ℕ) → length (data_read profile dir command ac body) ≡ length body
 read_long profile dir command ac body = go (is_denying dir ac)
@@ -324,7 +318,7 @@ read_long profile dir command ac body = go (is_denying dir ac)
     go false = length-map body (normal_in (row_of profile command))
 
 -- fields and data that are read as a message
-module _ (profile : Profile) (dir : Direction) (zone command ac : ℕ) (body : List ℕ) (m : Message) (e : read_of profile dir zone command ac body ≡ reading.Message m) where
+module _ (profile : Profile) (dir : Direction) (zone command ac : ℕ) (body : List ℕ) (m : Message) (e : read_of profile dir zone command ac body ≡ Ok m) where
   kept : (FieldsAreMinusZero profile dir command ac body → ⊥) → fields_frame profile dir zone command ac body ≡ frame_of dir zone command ac body
   kept other = go (zero_or_kept profile dir zone command ac body (read_passes profile dir zone command ac body m e).0)
     where
@@ -341,11 +335,11 @@ module _ (profile : Profile) (dir : Direction) (zone command ac : ℕ) (body : L
     is_zero : content.content_of dir z.row body ≡ Number (pos 0)
     is_zero = ap (content.content_of dir z.row) z.load ∙ zero_content z.row dir true z.zero
 
-    zero_is : (d : Direction) → is_denying d ac ≡ false → content.content_of d z.row body ≡ Number (pos 0) → message_of profile d zone command ac body ≡ reading.Message (zero_message d zone command)
+    zero_is : (d : Direction) → is_denying d ac ≡ false → content.content_of d z.row body ≡ Number (pos 0) → message_of profile d zone command ac body ≡ Ok (zero_message d zone command)
     zero_is Command a c =
-        in_row (row_of profile command) z.row _ z.there ∙ ap (λ (x : Content). reading.Message (message.Command (record { zone = zone; command = command; content = x }))) c
+        in_row (row_of profile command) z.row _ z.there ∙ ap (λ (x : Content). Ok (message.Command (record { zone = zone; command = command; content = x }))) c
     zero_is Answer a c =
-        rw a (in_row (row_of profile command) z.row _ z.there ∙ ap (λ (x : Content). reading.Message (message.Status (record { zone = zone; command = command; content = x }))) c)
+        rw a (in_row (row_of profile command) z.row _ z.there ∙ ap (λ (x : Content). Ok (message.Status (record { zone = zone; command = command; content = x }))) c)
 
     pub zero_promise : ZeroPromise profile dir zone command ac body z m e
     zero_promise = record {
@@ -355,8 +349,8 @@ module _ (profile : Profile) (dir : Direction) (zone command ac : ℕ) (body : L
     }
 
 fields_back : (profile : Profile) (dir : Direction) (buf : List ℕ) (at zone command ac : ℕ) (body : List ℕ) (n : ℕ)
-    → write_answered (read_rules profile dir zone command ac body) buf at (fields_frame profile dir zone command ac body) ≡ written.Bytes n
-    → (m : Message) × (message_of profile dir zone command ac body ≡ reading.Message m)
+    → write_answered (read_rules profile dir zone command ac body) buf at (fields_frame profile dir zone command ac body) ≡ Ok n
+    → (m : Message) × (message_of profile dir zone command ac body ≡ Ok m)
     × ReadsBack profile dir (write_left (read_rules profile dir zone command ac body) buf at (fields_frame profile dir zone command ac body)) at n m body
 fields_back profile dir buf at zone command ac body n e =
     let rules = read_rules profile dir zone command ac body in
@@ -373,23 +367,22 @@ kept_in_lem Command bytes = refl
 kept_in_lem Answer bytes = refl
 
 -- the fields and data of bytes that read as a message
-module _ (profile : Profile) (dir : Direction) (bytes : List ℕ) (m : Message) (e : frame_read profile dir bytes ≡ frame.Message m) where
+module _ (profile : Profile) (dir : Direction) (bytes : List ℕ) (m : Message) (e : frame_read profile dir bytes ≡ Some (Ok m)) where
   abbrev f : Fields
   f = fields_in dir bytes
 
   abbrev body : List ℕ
   body = data_in dir bytes
 
-  whole : (is_frame dir bytes ≡ true) × (read_of profile dir f.zone f.command f.answer body ≡ reading.Message m)
+  whole : (is_frame dir bytes ≡ true) × (read_of profile dir f.zone f.command f.answer body ≡ Ok m)
   unfolding frame_read
   whole = go (is_frame dir bytes) e
     where
-      taken : (r : Reading) → from_reading r ≡ frame.Message m → r ≡ reading.Message m
-      taken (reading.Message x) g = cc
-      taken (reading.Refused k) g = cc
+      taken : (r : Result Message Refusal) → from_reading r ≡ Some (Ok m) → r ≡ Ok m
+      taken r g = cc
 
-      go : (t : Bool) → cond t (from_reading (read_of profile dir f.zone f.command f.answer body)) frame.NotOneFrame ≡ frame.Message m
-          → (t ≡ true) × (read_of profile dir f.zone f.command f.answer body ≡ reading.Message m)
+      go : (t : Bool) → cond t (from_reading (read_of profile dir f.zone f.command f.answer body)) None ≡ Some (Ok m)
+          → (t ≡ true) × (read_of profile dir f.zone f.command f.answer body ≡ Ok m)
       go true g = (refl, taken (read_of profile dir f.zone f.command f.answer body) g)
       go false g = (cc, cc)
 
@@ -399,7 +392,7 @@ module _ (profile : Profile) (dir : Direction) (bytes : List ℕ) (m : Message) 
   data_is : data_of dir bytes ≡ body
   data_is = rw whole.0
 
-  pub frame_brings : (fields_of dir bytes ≡ brings.Frame f)
+  pub frame_brings : (fields_of dir bytes ≡ Some f)
       × (message_paper profile m (data_of dir bytes) ≡ paper_of f.zone f.command f.answer (data_read profile dir f.command f.answer (data_of dir bytes)))
   frame_brings = (
     rw whole.0,
@@ -416,15 +409,15 @@ module _ (profile : Profile) (dir : Direction) (bytes : List ℕ) (m : Message) 
       ∙ sym (frame_length_lem dir f.zone f.command f.answer body) ∙ ap length (sym (frame_again dir bytes whole.0))
 
   module _ (buf : List ℕ) (at : ℕ) (room : at + length bytes ≤ length buf) where
-    put : (write_answered (write_rules profile m body) buf at (message_frame profile m body) ≡ written.Bytes (length (message_frame profile m body)))
+    put : (write_answered (write_rules profile m body) buf at (message_frame profile m body) ≡ Ok (length (message_frame profile m body)))
         × (write_left (write_rules profile m body) buf at (message_frame profile m body) ≡ placed buf at (message_frame profile m body))
     put = write_fits (write_rules profile m body) buf at (message_frame profile m body) goes.rules (rw again_long room)
 
     abbrev brought : List ℕ
     brought = data_of dir bytes
 
-    said_again : write_answered (write_rules profile m brought) buf at (message_frame profile m brought) ≡ written.Bytes (length bytes)
-    said_again = rw data_is (put.0 ∙ ap written.Bytes again_long)
+    said_again : write_answered (write_rules profile m brought) buf at (message_frame profile m brought) ≡ Ok (length bytes)
+    said_again = rw data_is (put.0 ∙ ap Ok again_long)
 
     left_again : write_left (write_rules profile m brought) buf at (message_frame profile m brought) ≡ placed buf at again
     left_again = rw data_is (put.1 ∙ ap (λ (l : List ℕ). placed buf at l) goes.frame)

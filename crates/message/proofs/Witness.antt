@@ -11,9 +11,9 @@ use Rattle.row.specs.Table.{table, first_row}
 use Rattle.row.specs.declared.profile.Profile.TheVariants.{A, S}
 use Rattle.row.specs.declared.table.Row.{Row}
 use Rattle.judging.specs.Judge.{has_length, has_value, judged_of}
-use Rattle.judging.specs.declared.judge.Judged.{Judged}
-use Rattle.judging.specs.declared.judge.Judged.TheVariants.{Legal}
 use Rattle.message.proofs.Tidy.{every}
+use Rattle.std.specs.Prelude.{Ok, Result}
+use Rattle.refusals.specs.declared.refusal.Refusal.{Refusal}
 
 -- the request, and the row's lowest answer code, with 00 in the pair row
 abbrev pub sample : Direction → Row → List ℕ
@@ -28,10 +28,10 @@ unfolding table
 rows_fit = refl
 
 -- in zone 1 each row's sample is judged legal, by that row
-abbrev pub judged : Direction → Row → Judged
+abbrev pub judged : Direction → Row → Result Row Refusal
 judged dir row = judged_of (cond (eqb row.profile 0x41) A S) dir 1 row.code (sample dir row)
 
-pub rows_judged : (dir : Direction) → map (judged dir) table ≡ map Legal table
+pub rows_judged : (dir : Direction) → map (judged dir) table ≡ map Ok table
 unfolding table first_row judged_of
 rows_judged Command = refl
 rows_judged Answer = refl

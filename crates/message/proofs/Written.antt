@@ -9,8 +9,6 @@ use lib.ListN.{length}
 use Rattle.frame.specs.declared.direction.Direction.{Direction}
 use Rattle.frame.specs.declared.direction.Direction.TheVariants.{Command, Answer}
 use Rattle.frame.proofs.Cases.{cases}
-use Rattle.row.specs.declared.signed.Coded.{Coded}
-use Rattle.row.specs.declared.signed.Coded.TheVariants as coded
 use Rattle.row.specs.declared.table.Row.{Row}
 use Rattle.judging.specs.Judge.{is_word, has_length, has_value, has_data, value_refusal}
 use Rattle.judging.proofs.Judges.{value_goes, value_refuses}
@@ -22,6 +20,9 @@ use Rattle.message.specs.declared.content.Content.{Content}
 use Rattle.message.specs.declared.content.Content.TheVariants.{Request, Up, Down, On, Off, Toggle, LevellerOff, Number, Input}
 use Rattle.lists.proofs.Tests.{both}
 use Rattle.message.proofs.Codes.{code_by, coded_number}
+use Rattle.std.specs.Prelude.{None, Option, Some}
+use Rattle.refusals.specs.declared.refusal.Refusal.{Refusal}
+use Rattle.refusals.specs.declared.refusal.Refusal.TheVariants.{WrongLength}
 
 -- the forms that hold nothing, by their numbers
 form_of : ℕ → Content
@@ -79,9 +80,9 @@ module _ (dir : Direction) (row : Row) where
   data_size LevellerOff e = refl
   data_size (Number z) e = go (code_by row.signed z) e
     where
-      go : (code : Coded) → has_length dir row (length (encoded_data (encoded_code code))) ≡ true → length (encoded_data (encoded_code code)) ≡ 1
-      go (coded.Code c) f = refl
-      go coded.NoCode f = cc
+      go : (code : Option ℕ) → has_length dir row (length (encoded_data (encoded_code code))) ≡ true → length (encoded_data (encoded_code code)) ≡ 1
+      go (Some c) f = refl
+      go None f = cc
   data_size (Input input on) e = refl
 
   -- and what they say is this form, where it is of the same kind
@@ -99,10 +100,10 @@ module _ (dir : Direction) (row : Row) where
   same_form LevellerOff long e = bare (says LevellerOff) (omega arith) ∙ ap form_of e
   same_form (Number z) long e = go (code_by row.signed z) refl long e
     where
-      go : (code : Coded) → code_by row.signed z ≡ code → has_length dir row (length (encoded_data (encoded_code code))) ≡ true
+      go : (code : Option ℕ) → code_by row.signed z ≡ code → has_length dir row (length (encoded_data (encoded_code code))) ≡ true
           → form_number (content_of dir row (encoded_data (encoded_code code))) ≡ 7 → content_of dir row (encoded_data (encoded_code code)) ≡ Number z
-      go (coded.Code c) f g h = byte_number row c dir h ∙ ap Number (coded_number row.signed z c f)
-      go coded.NoCode f g h = cc
+      go (Some c) f g h = byte_number row c dir h ∙ ap Number (coded_number row.signed z c f)
+      go None f g h = cc
   same_form (Input input on) long e = ap (Input input) (state_byte on)
 
   pub writes : (content : Content) → is_form dir row content ≡ true
@@ -120,12 +121,12 @@ module _ (dir : Direction) (row : Row) where
   no_form content wrong = rw (wrong, and-false (has_length dir row (length (encoded_data (encoded_of row content)))))
 
   -- what is said goes by its length and its form
-  abbrev pub form_judged : Content → {A : Type 0} → (ℕ → A) → A → A
+  abbrev pub form_judged : Content → {A : Type 0} → (Refusal → A) → A → A
   form_judged content refuse accepted =
-      cond (not (has_length dir row (size_of content))) (refuse 3)
+      cond (not (has_length dir row (size_of content))) (refuse WrongLength)
       (cond (not (is_form dir row content)) (refuse (value_refusal dir row (encoded_data (encoded_of row content)))) accepted)
 
-  pub form_goes : (content : Content) {A : Type 0} (refuse : ℕ → A) (accepted : A) → ruled (form_rules dir content row) refuse accepted ≡ form_judged content refuse accepted
+  pub form_goes : (content : Content) {A : Type 0} (refuse : Refusal → A) (accepted : A) → ruled (form_rules dir content row) refuse accepted ≡ form_judged content refuse accepted
   form_goes content refuse accepted =
       value_goes row (size_of content) (encoded_data (encoded_of row content)) (not (is_form dir row content)) dir (no_form content) refuse accepted
 

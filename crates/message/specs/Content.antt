@@ -1,16 +1,14 @@
 -- Document 01, 'Commands of the two profiles': what legal data say in a row, and the data of what is said.
-use Rattle.std.specs.Prelude.{ℕ, Bool, cond, ◌&&◌, List, [], ◌∷◌, eqb, ℤ, pos, length, get_or}
+use Rattle.std.specs.Prelude.{ℕ, Bool, cond, ◌&&◌, List, [], ◌∷◌, eqb, ℤ, pos, length, get_or, None, Option, Some}
 use Rattle.frame.specs.declared.direction.Direction.{Direction}
 use Rattle.frame.specs.declared.direction.Direction.TheVariants.{Command, Answer}
 use Rattle.row.specs.Signed.{number_of, code_of, plain_code_of}
-use Rattle.row.specs.declared.signed.Coded.{Coded}
-use Rattle.row.specs.declared.signed.Coded.TheVariants as coded
 use Rattle.row.specs.declared.table.Row.{Row}
 use Rattle.judging.specs.Judge.{is_word, has_data}
 use Rattle.message.specs.declared.content.Content.{Content}
 use Rattle.message.specs.declared.content.Content.TheVariants.{Request, Up, Down, On, Off, Toggle, LevellerOff, Number, Input}
 use Rattle.message.specs.declared.content.Encoded.{Encoded}
-use Rattle.message.specs.declared.content.Encoded.TheVariants.{One, Two, NoCode}
+use Rattle.message.specs.declared.content.Encoded.TheVariants.{One, Two}
 
 -- "F0 requests, F1 steps up, F2 steps down"; S 0E: "02 toggle"; A 37: "F1 on, F2 off"
 abbrev pub word_of : Row → ℕ → Content
@@ -40,29 +38,29 @@ content_of dir row body =
     cond (eqb (length body) 2) (Input (get_or body 0 0) (eqb (get_or body 1 0) 1)) (byte_content dir row (get_or body 0 0))
 
 -- the code of a number in a row, where it has one
-abbrev pub encoded_code : Coded → Encoded
-encoded_code (coded.Code c) = One c
-encoded_code coded.NoCode = NoCode
+abbrev pub encoded_code : Option ℕ → Option Encoded
+encoded_code (Some c) = Some (One c)
+encoded_code None = None
 
-abbrev pub number_code : Row → ℤ → Encoded
+abbrev pub number_code : Row → ℤ → Option Encoded
 number_code row z = encoded_code (cond row.signed (code_of z) (plain_code_of z))
 
--- the data of what is said
-abbrev pub encoded_of : Row → Content → Encoded
-encoded_of row Request = One 0xF0
-encoded_of row Up = One 0xF1
-encoded_of row Down = One 0xF2
-encoded_of row On = One 0xF1
-encoded_of row Off = One 0xF2
-encoded_of row Toggle = One 0x02
-encoded_of row LevellerOff = One 0xFF
+-- the data of what is said; a number without a code has none
+abbrev pub encoded_of : Row → Content → Option Encoded
+encoded_of row Request = Some (One 0xF0)
+encoded_of row Up = Some (One 0xF1)
+encoded_of row Down = Some (One 0xF2)
+encoded_of row On = Some (One 0xF1)
+encoded_of row Off = Some (One 0xF2)
+encoded_of row Toggle = Some (One 0x02)
+encoded_of row LevellerOff = Some (One 0xFF)
 encoded_of row (Number z) = number_code row z
-encoded_of row (Input input on) = Two input (cond on 1 0)
+encoded_of row (Input input on) = Some (Two input (cond on 1 0))
 
-abbrev pub encoded_data : Encoded → List ℕ
-encoded_data (One b) = b ∷ []
-encoded_data (Two b c) = b ∷ c ∷ []
-encoded_data NoCode = []
+abbrev pub encoded_data : Option Encoded → List ℕ
+encoded_data (Some (One b)) = b ∷ []
+encoded_data (Some (Two b c)) = b ∷ c ∷ []
+encoded_data None = []
 
 -- how many bytes it takes; a number without a code would take one
 abbrev pub size_of : Content → ℕ

@@ -1,25 +1,21 @@
 -- Document 01: "Where an answer is an enum, a definition gives this paper's number and values for each of its cases." The number
 -- of an answer is 0 where it is accepted; a refusal's other values are zero. Bytes that are not one whole frame have no number.
-use Rattle.std.specs.Prelude.{ℕ, List, []}
+use Rattle.std.specs.Prelude.{ℕ, List, [], Err, None, Ok, Option, Result, Some}
+use Rattle.refusals.specs.Refusal.{number}
 use Rattle.message.specs.Write.{said_data}
 use Rattle.row.specs.declared.profile.Profile.{Profile}
-use Rattle.row.specs.declared.profile.NamedProfile.{NamedProfile}
-use Rattle.row.specs.declared.profile.NamedProfile.TheVariants as named
 use Rattle.message.specs.declared.read.Message.{Message}
 use Rattle.message.specs.declared.read.Message.TheVariants as message
-use Rattle.message.specs.declared.read.Reading.{Reading}
-use Rattle.message.specs.declared.read.Reading.TheVariants as reading
-use Rattle.message.specs.declared.read.FrameReading.{FrameReading}
-use Rattle.message.specs.declared.read.FrameReading.TheVariants as frame
+use Rattle.refusals.specs.declared.refusal.Refusal.{Refusal}
 
 -- a profile's letter
-abbrev pub profile_number : NamedProfile → ℕ
-profile_number (named.Profile profile) = 0
-profile_number (named.Refused n) = n
+abbrev pub profile_number : Result Profile Refusal → ℕ
+profile_number (Ok profile) = 0
+profile_number (Err e) = number e
 
-abbrev pub reading_number : Reading → ℕ
-reading_number (reading.Message m) = 0
-reading_number (reading.Refused n) = n
+abbrev pub reading_number : Result Message Refusal → ℕ
+reading_number (Ok m) = 0
+reading_number (Err e) = number e
 
 -- a message as document 01's fields: zone, command, answer code, data
 pub record Paper : Type 0 where
@@ -36,17 +32,17 @@ message_paper profile (message.Denied d) body = record { zone = d.zone; command 
 abbrev pub zero_paper : Paper
 zero_paper = record { zone = 0; command = 0; answer = 0; body = [] }
 
-abbrev pub reading_paper : Profile → Reading → List ℕ → Paper
-reading_paper profile (reading.Message m) body = message_paper profile m body
-reading_paper profile (reading.Refused n) body = zero_paper
+abbrev pub reading_paper : Profile → Result Message Refusal → List ℕ → Paper
+reading_paper profile (Ok m) body = message_paper profile m body
+reading_paper profile (Err e) body = zero_paper
 
 -- the same of a frame's bytes; where they are not one whole frame the paper has no number, and 0 stands here
-abbrev pub frame_number : FrameReading → ℕ
-frame_number (frame.Message m) = 0
-frame_number (frame.Refused n) = n
-frame_number frame.NotOneFrame = 0
+abbrev pub frame_number : Option (Result Message Refusal) → ℕ
+frame_number (Some (Ok m)) = 0
+frame_number (Some (Err e)) = number e
+frame_number None = 0
 
-abbrev pub frame_paper : Profile → FrameReading → List ℕ → Paper
-frame_paper profile (frame.Message m) body = message_paper profile m body
-frame_paper profile (frame.Refused n) body = zero_paper
-frame_paper profile frame.NotOneFrame body = zero_paper
+abbrev pub frame_paper : Profile → Option (Result Message Refusal) → List ℕ → Paper
+frame_paper profile (Some (Ok m)) body = message_paper profile m body
+frame_paper profile (Some (Err e)) body = zero_paper
+frame_paper profile None body = zero_paper

@@ -1,5 +1,5 @@
 -- Document 01, 'Refusal numbers': "Writing checks the same (a message written as denied: only 5, then 3 for data over 255) and then 9."
-use Rattle.std.specs.Prelude.{ℕ, not, List, [], ◌∷◌}
+use Rattle.std.specs.Prelude.{ℕ, not, List, [], ◌∷◌, None, Option, Some}
 use Rattle.refusals.specs.Rule.{Rule, rule}
 use Rattle.frame.specs.Frame.{frame_of}
 use Rattle.fields.specs.Raw.{too_long}
@@ -8,14 +8,13 @@ use Rattle.frame.specs.declared.direction.Direction.TheVariants.{Command, Answer
 use Rattle.row.specs.Table.{row_of}
 use Rattle.row.specs.declared.profile.Profile.{Profile}
 use Rattle.row.specs.declared.table.Row.{Row}
-use Rattle.row.specs.declared.table.Found.{Found}
-use Rattle.row.specs.declared.table.Found.TheVariants as found
 use Rattle.judging.specs.Judge.{wrong_length, value_rules, row_rules}
 use Rattle.message.specs.Content.{encoded_of, encoded_data, size_of, is_form}
 use Rattle.message.specs.Message.{is_denial, data_read}
 use Rattle.message.specs.declared.content.Content.{Content}
 use Rattle.message.specs.declared.read.Message.{Message}
 use Rattle.message.specs.declared.read.Message.TheVariants as message
+use Rattle.refusals.specs.declared.refusal.Refusal.TheVariants.{WrongAnswer}
 
 -- what a command or a status says is judged by the data that it would write: 13 where they are a step or request that the row lacks;
 -- 4 for every other form that the row lacks, also where it has the data and says something else by them, as A 37, whose F1 is `on`,
@@ -28,7 +27,7 @@ said_rules profile dir zone command content = row_rules profile zone command (fo
 
 -- 5: "answer code not 00 or 82 to 86; 00 in a message to be written as denied"
 abbrev pub not_denied : ℕ → Rule
-not_denied ac = rule 5 (not (is_denial ac))
+not_denied ac = rule WrongAnswer (not (is_denial ac))
 
 -- which way a message goes, its rules, and its frame
 abbrev pub message_direction : Message → Direction
@@ -42,9 +41,9 @@ write_rules profile (message.Status s) body = said_rules profile Answer s.zone s
 write_rules profile (message.Denied d) body = not_denied d.answer ∷ too_long body ∷ []
 
 -- the data of what is said, in the row that was found; without one it has none
-abbrev pub said_in : Found → Content → List ℕ
-said_in (found.Row row) content = encoded_data (encoded_of row content)
-said_in found.NoRow content = []
+abbrev pub said_in : Option Row → Content → List ℕ
+said_in (Some row) content = encoded_data (encoded_of row content)
+said_in None content = []
 
 abbrev pub said_data : Profile → ℕ → Content → List ℕ
 said_data profile command content = said_in (row_of profile command) content

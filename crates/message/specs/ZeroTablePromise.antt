@@ -1,6 +1,7 @@
 -- Promise: document 02, C-14, evaluated as one table: frames for each of its sentences on reading and writing, what is written for fields
 -- that are handed over, and what was refused before and is still.
-use Rattle.std.specs.Prelude.{◌≡◌, List, [], ◌∷◌, map, ℕ, pos, neg_ℤ}
+use Rattle.std.specs.Prelude.{◌≡◌, List, [], ◌∷◌, map, ℕ, pos, neg_ℤ, Err, Ok, Some}
+use Rattle.refusals.specs.Refusal.{number}
 use Rattle.refusals.specs.Rule.{ruled}
 use Rattle.frame.specs.declared.direction.Direction.{Direction}
 use Rattle.frame.specs.declared.direction.Direction.TheVariants.{Command, Answer}
@@ -11,7 +12,7 @@ use Rattle.message.specs.Message.{read_rules}
 use Rattle.message.specs.Write.{fields_frame}
 use Rattle.message.specs.declared.content.Content.TheVariants.{Number}
 use Rattle.message.specs.declared.read.Message.TheVariants as message
-use Rattle.message.specs.declared.read.FrameReading.TheVariants.{Message, Refused}
+use Rattle.refusals.specs.declared.refusal.Refusal.TheVariants.{WrongValue}
 
 -- a command, and a status, with one byte of data in zone 1
 abbrev pub command_of : ℕ → ℕ → List ℕ
@@ -31,22 +32,22 @@ zero_frames =
     ∷ bench A Answer (status_of 0x46 0x80) (reports 1 0x46 (Number (pos 0)))
     ∷ bench S Answer (status_of 0x3B 0x80) (reports 1 0x3B (Number (pos 0)))
     -- S 3B has no setting codes, and Leveller and the volume are not signed
-    ∷ bench S Command (command_of 0x3B 0x80) (Refused 4)
-    ∷ bench A Command (command_of 0x39 0x80) (Refused 4)
-    ∷ bench A Answer (status_of 0x39 0x80) (Refused 4)
-    ∷ bench S Command (command_of 0x0D 0x80) (Refused 4)
+    ∷ bench S Command (command_of 0x3B 0x80) (Some (Err WrongValue))
+    ∷ bench A Command (command_of 0x39 0x80) (Some (Err WrongValue))
+    ∷ bench A Answer (status_of 0x39 0x80) (Some (Err WrongValue))
+    ∷ bench S Command (command_of 0x0D 0x80) (Some (Err WrongValue))
     -- "A 45 runs to A8, forty quarter steps"
     ∷ bench A Command (command_of 0x45 0xA8) (sets 1 0x45 (Number (neg_ℤ (pos 40))))
     ∷ bench A Answer (status_of 0x45 0xA8) (reports 1 0x45 (Number (neg_ℤ (pos 40))))
-    ∷ bench A Command (command_of 0x45 0xA9) (Refused 4)
-    ∷ bench A Answer (status_of 0x45 0xA9) (Refused 4)
-    ∷ bench A Command (command_of 0x45 0x01) (Refused 4)
+    ∷ bench A Command (command_of 0x45 0xA9) (Some (Err WrongValue))
+    ∷ bench A Answer (status_of 0x45 0xA9) (Some (Err WrongValue))
+    ∷ bench A Command (command_of 0x45 0x01) (Some (Err WrongValue))
     -- the ends of the other three rows stay
-    ∷ bench A Command (command_of 0x3A 0x90) (Refused 4)
-    ∷ bench A Command (command_of 0x46 0x8B) (Refused 4)
-    ∷ bench S Answer (status_of 0x3B 0x8D) (Refused 4)
+    ∷ bench A Command (command_of 0x3A 0x90) (Some (Err WrongValue))
+    ∷ bench A Command (command_of 0x46 0x8B) (Some (Err WrongValue))
+    ∷ bench S Answer (status_of 0x3B 0x8D) (Some (Err WrongValue))
     -- a denied answer of A 3A: its data are as they came
-    ∷ bench A Answer (0x21 ∷ 0x01 ∷ 0x3A ∷ 0x84 ∷ 0x01 ∷ 0x80 ∷ 0x0D ∷ []) (Message (message.Denied (record { zone = 1; command = 0x3A; answer = 0x84 })))
+    ∷ bench A Answer (0x21 ∷ 0x01 ∷ 0x3A ∷ 0x84 ∷ 0x01 ∷ 0x80 ∷ 0x0D ∷ []) (Some (Ok (message.Denied (record { zone = 1; command = 0x3A; answer = 0x84 }))))
     ∷ []
 
 -- fields and data that are handed to the writer, and the frame that is written
@@ -81,7 +82,7 @@ handed_over =
 
 -- the number that the rules of reading give; 0 where none applies
 abbrev pub handed_number : Handed → ℕ
-handed_number h = ruled (read_rules h.profile h.dir 0x01 h.command h.answer h.load) (λ n. n) 0
+handed_number h = ruled (read_rules h.profile h.dir 0x01 h.command h.answer h.load) number 0
 
 abbrev pub handed_frame : Handed → List ℕ
 handed_frame h = fields_frame h.profile h.dir 0x01 h.command h.answer h.load

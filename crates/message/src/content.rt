@@ -1,5 +1,5 @@
 // What the data of a message say, in the words of document 01.
-#[derive(Clone, Copy)]
+#[derive(Clone, Copy, Debug, PartialEq, Eq)]
 pub enum Content {
     Request,
     Up,
@@ -14,10 +14,9 @@ pub enum Content {
     Input(u8, bool),
 }
 
-// The data that say it: one byte or two, or none where a number has no code.
-#[derive(Clone, Copy)]
+// The data that say it: one byte or two.
+#[derive(Clone, Copy, Debug, PartialEq, Eq)]
 pub enum Encoded {
     One(u8),
     Two(u8, u8),
-    NoCode,
 }

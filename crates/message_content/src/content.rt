@@ -1,11 +1,11 @@
-ghost use Rattle.std.specs.Prelude.{◌≡◌, cond, ◌<◌, length};
+ghost use Rattle.std.specs.Prelude.{◌≡◌};
 ghost use Rattle.judging.specs.Judge.{is_word, value_refusal};
-ghost use Rattle.message.specs.Content.{word_of, is_leveller_off, value_content, byte_content, content_of, encoded_code, number_code, encoded_of, encoded_data, size_of, form_number, is_said, is_form};
+ghost use Rattle.message.specs.Content.{word_of, is_leveller_off, value_content, byte_content, content_of, number_code, encoded_of, encoded_data, size_of, form_number, is_said, is_form};
 
 use frame::direction::Direction;
 use judging_code::judge::{data_fit, is_word, value_refusal};
 use message::content::{Content, Encoded};
-use row::signed::Coded;
+use refusals::refusal::Refusal;
 use row::table::Row;
 
 // What data of one byte or two say in a row; no data say what a byte of 00 says.
@@ -13,132 +13,74 @@ use row::table::Row;
 pub fn content_of(direction: Direction, row: Row, body: &[u8]) -> Content
     ensures { result ≡ content_of direction row body.now }
 {
-    if body.len() == 2 {
-        return Content::Input(body[0], body[1] == 1);
+    match body {
+        [input, state] => Content::Input(*input, *state == 1),
+        [] => byte_content(direction, row, 0),
+        [byte, ..] => byte_content(direction, row, *byte),
     }
-    if body.len() == 0 {
-        return byte_content(direction, row, 0);
-    }
-    byte_content(direction, row, body[0])
 }
 
 fn byte_content(direction: Direction, row: Row, byte: u8) -> Content
     ensures { result ≡ byte_content direction row byte }
 {
     match direction {
-        Direction::Command => command_content(row, byte),
-        Direction::Answer => value_content(row, byte),
+        Direction::Command if is_word(row, byte) => word_of(row, byte),
+        _ => value_content(row, byte),
     }
-}
-
-fn command_content(row: Row, byte: u8) -> Content
-    ensures { result ≡ cond (is_word row byte) (word_of row byte) (value_content row byte) }
-{
-    if is_word(row, byte) {
-        return word_of(row, byte);
-    }
-    value_content(row, byte)
 }
 
 // F0, F1, F2 and 02, where the row has them.
 fn word_of(row: Row, byte: u8) -> Content
     ensures { result ≡ word_of row byte }
 {
-    if byte == 0xF0 {
-        return Content::Request;
+    match byte {
+        0xF0 => Content::Request,
+        0x02 => Content::Toggle,
+        0xF1 if row.switch => Content::On,
+        0xF1 => Content::Up,
+        _ if row.switch => Content::Off,
+        _ => Content::Down,
     }
-    if byte == 0x02 {
-        return Content::Toggle;
-    }
-    if byte == 0xF1 {
-        return f1_says(row);
-    }
-    f2_says(row)
-}
-
-fn f1_says(row: Row) -> Content
-    ensures { result ≡ cond row.switch Content.On Content.Up }
-{
-    if row.switch {
-        return Content::On;
-    }
-    Content::Up
-}
-
-fn f2_says(row: Row) -> Content
-    ensures { result ≡ cond row.switch Content.Off Content.Down }
-{
-    if row.switch {
-        return Content::Off;
-    }
-    Content::Down
 }
 
 // A code of the row: off, or its number.
 fn value_content(row: Row, code: u8) -> Content
     ensures { result ≡ value_content row code }
 {
-    if is_off(row, code) {
-        return Content::LevellerOff;
+    if code == 0xFF && row.off {
+        Content::LevellerOff
+    } else if row.signed {
+        Content::Number(row::signed::number_of(code))
+    } else {
+        Content::Number(i16::from(code))
     }
-    if row.signed {
-        return Content::Number(row::signed::number_of(code));
-    }
-    Content::Number(code as i16)
-}
-
-fn is_off(row: Row, code: u8) -> bool
-    ensures { result ≡ is_leveller_off row code }
-{
-    if code != 0xFF {
-        return false;
-    }
-    row.off
 }
 
 // The data that say something in a row; nothing is checked, also not whether the row can say it.
-pub fn encode(row: Row, content: Content) -> Encoded
+pub fn encode(row: Row, content: Content) -> Option<Encoded>
     ensures { result ≡ encoded_of row content }
 {
     match content {
-        Content::Request => Encoded::One(0xF0),
-        Content::Up => Encoded::One(0xF1),
-        Content::Down => Encoded::One(0xF2),
-        Content::On => Encoded::One(0xF1),
-        Content::Off => Encoded::One(0xF2),
-        Content::Toggle => Encoded::One(0x02),
-        Content::LevellerOff => Encoded::One(0xFF),
+        Content::Request => Some(Encoded::One(0xF0)),
+        Content::Up | Content::On => Some(Encoded::One(0xF1)),
+        Content::Down | Content::Off => Some(Encoded::One(0xF2)),
+        Content::Toggle => Some(Encoded::One(0x02)),
+        Content::LevellerOff => Some(Encoded::One(0xFF)),
         Content::Number(number) => number_code(row, number),
-        Content::Input(input, on) => input_code(input, on),
+        Content::Input(input, on) => Some(Encoded::Two(input, u8::from(on))),
     }
-}
-
-fn input_code(input: u8, on: bool) -> Encoded
-    ensures { result ≡ Encoded.Two input (cond on 1 0) }
-{
-    if on {
-        return Encoded::Two(input, 1);
-    }
-    Encoded::Two(input, 0)
 }
 
 // The code of a number in a row.
-fn number_code(row: Row, number: i16) -> Encoded
+fn number_code(row: Row, number: i16) -> Option<Encoded>
     ensures { result ≡ number_code row number }
 {
-    if row.signed {
-        return encoded_code(row::signed::code_of(number));
-    }
-    encoded_code(row::signed::plain_code_of(number))
-}
-
-fn encoded_code(coded: Coded) -> Encoded
-    ensures { result ≡ encoded_code coded }
-{
-    match coded {
-        Coded::Code(code) => Encoded::One(code),
-        Coded::NoCode => Encoded::NoCode,
-    }
+    let coded = if row.signed {
+        row::signed::code_of(number)
+    } else {
+        row::signed::plain_code_of(number)
+    };
+    coded.map(Encoded::One)
 }
 
 // How many bytes of data say it.
@@ -146,15 +88,8 @@ pub fn size_of(content: Content) -> usize
     ensures { result ≡ size_of content }
 {
     match content {
-        Content::Request => 1,
-        Content::Up => 1,
-        Content::Down => 1,
-        Content::On => 1,
-        Content::Off => 1,
-        Content::Toggle => 1,
-        Content::LevellerOff => 1,
-        Content::Number(_) => 1,
         Content::Input(_, _) => 2,
+        _ => 1,
     }
 }
 
@@ -163,24 +98,24 @@ pub fn size_of(content: Content) -> usize
 pub fn is_form(direction: Direction, row: Row, content: Content) -> bool
     ensures { result ≡ is_form direction row content }
 {
-    let encoded = encode(row, content);
-    match encoded {
-        Encoded::One(byte) => is_said(direction, row, &[byte], content),
-        Encoded::Two(input, state) => is_said(direction, row, &[input, state], content),
-        Encoded::NoCode => false,
+    // tried: one slice for the three arms; the borrow checker does not cover what is borrowed on one path alone
+    match encode(row, content) {
+        Some(Encoded::One(byte)) => is_said(direction, row, &[byte], content),
+        Some(Encoded::Two(input, state)) => is_said(direction, row, &[input, state], content),
+        None => false,
     }
 }
 
-// The number of a form that a row lacks in a direction: 13 where its data are a step or request that the row
-// lacks, else 4.
-pub fn form_refusal(direction: Direction, row: Row, content: Content) -> u8
+// How a form that a row lacks in a direction is refused: as a missing step where its data are a step or request that
+// the row lacks, else as a wrong value.
+pub fn form_refusal(direction: Direction, row: Row, content: Content) -> Refusal
     ensures { result ≡ value_refusal direction row (encoded_data (encoded_of row content)) }
 {
-    let encoded = encode(row, content);
-    match encoded {
-        Encoded::One(byte) => value_refusal(direction, row, &[byte]),
-        Encoded::Two(input, state) => value_refusal(direction, row, &[input, state]),
-        Encoded::NoCode => value_refusal(direction, row, &[]),
+    // tried: one slice for the three arms; the borrow checker does not cover what is borrowed on one path alone
+    match encode(row, content) {
+        Some(Encoded::One(byte)) => value_refusal(direction, row, &[byte]),
+        Some(Encoded::Two(input, state)) => value_refusal(direction, row, &[input, state]),
+        None => value_refusal(direction, row, &[]),
     }
 }
 
@@ -188,13 +123,11 @@ pub fn form_refusal(direction: Direction, row: Row, content: Content) -> u8
 fn is_said(direction: Direction, row: Row, body: &[u8], content: Content) -> bool
     ensures { result ≡ is_said direction row body.now content }
 {
-    if !data_fit(direction, row, body) {
-        return false;
-    }
-    form_number(content_of(direction, row, body)) == form_number(content)
+    data_fit(direction, row, body)
+        && form_number(content_of(direction, row, body)) == form_number(content)
 }
 
-// Which form it is.
+// Which form it is: a number, since a form has its number in FORM of tests/README.md.
 fn form_number(content: Content) -> u8
     ensures { result ≡ form_number content }
 {

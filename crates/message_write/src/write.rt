@@ -1,22 +1,21 @@
 ghost use Rattle.std.specs.Prelude.{◌≡◌, [], ◌∷◌};
-ghost use Rattle.frame.specs.Frame.{frame_of};
 ghost use Rattle.fields.specs.Raw.{too_long, raw_rules};
+ghost use Rattle.frame.specs.Frame.{frame_of};
 ghost use Rattle.frame.specs.declared.direction.Direction.TheVariants as direction;
+ghost use Rattle.lent.specs.Written.{write_answered, write_left};
 ghost use Rattle.message.specs.Content.{encoded_data};
 ghost use Rattle.message.specs.Message.{read_rules};
 ghost use Rattle.message.specs.Write.{said_rules, said_data, not_denied, write_rules, message_frame, fields_frame};
-ghost use Rattle.lent.specs.Written.{write_answered, write_left};
-ghost use Rattle.message.specs.Computed.{judged_written, reading_written};
 
+use fields::fields::Fields;
 use fields::raw::write_raw;
 use frame::direction::Direction;
-use judging::judge::Judged;
 use judging_code::judge::{judge_row, length_fits};
-use lent::written::Written;
-use message::content::{Content, Encoded};
-use message::read::{Message, Reading};
+use message::content::Encoded;
+use message::read::{Denial, Message, Said};
 use message_content::content::{encode, form_refusal, is_form, size_of};
 use message_read::read::read_message;
+use refusals::refusal::Refusal;
 use row::profile::Profile;
 
 // Writes a message into the rest of the buffer from a place: the checks of reading the data that it would
@@ -29,154 +28,116 @@ pub fn write_message(
     at: usize,
     message: Message,
     body: &[u8],
-) -> Written
+) -> Result<usize, Refusal>
     ensures answers { result ≡ write_answered (write_rules profile message body.now) buf.old at (message_frame profile message body.now) }
     ensures leaves { buf.new ≡ write_left (write_rules profile message body.now) buf.old at (message_frame profile message body.now) }
 {
     match message {
-        Message::Command(said) => {
-            let content = said.content;
-            write_said(
-                profile,
-                Direction::Command,
-                buf,
-                at,
-                said.zone,
-                said.command,
-                content,
-            )
-        }
-        Message::Status(said) => {
-            let content = said.content;
-            write_said(
-                profile,
-                Direction::Answer,
-                buf,
-                at,
-                said.zone,
-                said.command,
-                content,
-            )
-        }
-        Message::Denied(denial) => write_denied(
-            buf,
-            at,
-            denial.zone,
-            denial.command,
-            denial.answer,
-            body,
-        ),
+        Message::Command(said) => write_said(profile, Direction::Command, said, buf, at),
+        Message::Status(said) => write_said(profile, Direction::Answer, said, buf, at),
+        Message::Denied(denial) => write_denied(denial, body, buf, at),
     }
 }
 
 // Writes fields and data as the message that they are, with the numbers that reading them would give, then 9:
 // minus zero is written as 00. The answer code of a command is not looked at.
-#[tactic(auto, using(message::proofs::Writes::fields_refused, message::proofs::Writes::fields_message))]
+#[tactic(auto, using(message::proofs::Writes::fields_refused, message::proofs::Writes::fields_message, message::proofs::Writes::fields_refused_left, message::proofs::Writes::fields_message_left))]
 pub fn write_fields(
     profile: Profile,
     direction: Direction,
+    fields: Fields,
+    body: &[u8],
     buf: &mut [u8],
     at: usize,
-    zone: u8,
-    command: u8,
-    answer: u8,
-    body: &[u8],
-) -> Written
-    ensures answers { result ≡ write_answered (read_rules profile direction zone command answer body.now) buf.old at (fields_frame profile direction zone command answer body.now) }
-    ensures leaves { buf.new ≡ write_left (read_rules profile direction zone command answer body.now) buf.old at (fields_frame profile direction zone command answer body.now) }
+) -> Result<usize, Refusal>
+    ensures answers { result ≡ write_answered (read_rules profile direction fields.zone fields.command fields.answer body.now) buf.old at (fields_frame profile direction fields.zone fields.command fields.answer body.now) }
+    ensures leaves { buf.new ≡ write_left (read_rules profile direction fields.zone fields.command fields.answer body.now) buf.old at (fields_frame profile direction fields.zone fields.command fields.answer body.now) }
 {
-    let reading = read_message(profile, direction, zone, command, answer, body);
-    let Reading::Message(message) = reading else {
-        return reading_written(reading);
-    };
+    let message = read_message(profile, direction, fields, body)?;
     write_message(profile, buf, at, message, body)
 }
 
 // Only 5, then 3 for data over 255, then 9: what a unit denies is not checked.
 #[tactic(auto, unfolding(lent::specs::Written::write_answered, lent::specs::Written::write_left))]
-fn write_denied(
-    buf: &mut [u8],
-    at: usize,
-    zone: u8,
-    command: u8,
-    answer: u8,
-    body: &[u8],
-) -> Written
-    ensures answers { result ≡ write_answered (not_denied answer ∷ too_long body.now ∷ []) buf.old at (frame_of direction.Answer zone command answer body.now) }
-    ensures leaves { buf.new ≡ write_left (not_denied answer ∷ too_long body.now ∷ []) buf.old at (frame_of direction.Answer zone command answer body.now) }
+fn write_denied(denial: Denial, body: &[u8], buf: &mut [u8], at: usize) -> Result<usize, Refusal>
+    ensures answers { result ≡ write_answered (not_denied denial.answer ∷ too_long body.now ∷ []) buf.old at (frame_of direction.Answer denial.zone denial.command denial.answer body.now) }
+    ensures leaves { buf.new ≡ write_left (not_denied denial.answer ∷ too_long body.now ∷ []) buf.old at (frame_of direction.Answer denial.zone denial.command denial.answer body.now) }
 {
-    if answer < 0x82 {
-        return Written::Refused(5);
+    let Denial {
+        zone,
+        command,
+        answer,
+    } = denial;
+    if !matches!(answer, 0x82..=0x86) {
+        return Err(Refusal::WrongAnswer);
     }
-    if answer > 0x86 {
-        return Written::Refused(5);
-    }
-    write_raw(Direction::Answer, buf, at, zone, command, answer, body)
+    write_raw(
+        Direction::Answer,
+        Fields {
+            zone,
+            command,
+            answer,
+        },
+        body,
+        buf,
+        at,
+    )
 }
 
 // A command or a status, once its zone, row, length and form are judged.
-#[tactic(auto, using(message::proofs::Writes::said_refused, message::proofs::Writes::said_length, message::proofs::Writes::said_form, message::proofs::Writes::said_good))]
+#[tactic(auto, using(message::proofs::Writes::said_refused, message::proofs::Writes::said_length, message::proofs::Writes::said_form, message::proofs::Writes::said_good, message::proofs::Writes::said_refused_left, message::proofs::Writes::said_length_left, message::proofs::Writes::said_form_left, message::proofs::Writes::said_good_left))]
 fn write_said(
     profile: Profile,
     direction: Direction,
+    said: Said,
     buf: &mut [u8],
     at: usize,
-    zone: u8,
-    command: u8,
-    content: Content,
-) -> Written
-    ensures answers { result ≡ write_answered (said_rules profile direction zone command content) buf.old at (frame_of direction zone command 0 (said_data profile command content)) }
-    ensures leaves { buf.new ≡ write_left (said_rules profile direction zone command content) buf.old at (frame_of direction zone command 0 (said_data profile command content)) }
+) -> Result<usize, Refusal>
+    ensures answers { result ≡ write_answered (said_rules profile direction said.zone said.command said.content) buf.old at (frame_of direction said.zone said.command 0 (said_data profile said.command said.content)) }
+    ensures leaves { buf.new ≡ write_left (said_rules profile direction said.zone said.command said.content) buf.old at (frame_of direction said.zone said.command 0 (said_data profile said.command said.content)) }
 {
-    let judged = judge_row(profile, zone, command);
-    let Judged::Legal(row) = judged else {
-        return judged_written(judged);
-    };
+    let Said {
+        zone,
+        command,
+        content,
+    } = said;
+    let row = judge_row(profile, zone, command)?;
     if !length_fits(direction, row, size_of(content)) {
-        return Written::Refused(3);
+        return Err(Refusal::WrongLength);
     }
     if !is_form(direction, row, content) {
-        return Written::Refused(form_refusal(direction, row, content));
+        return Err(form_refusal(direction, row, content));
     }
-    write_encoded(direction, buf, at, zone, command, encode(row, content))
+    // what a command or a status says has the answer code 00
+    let fields = Fields {
+        zone,
+        command,
+        answer: 0,
+    };
+    write_encoded(direction, fields, encode(row, content), buf, at)
 }
 
-// The frame of one or two bytes of data; its answer code is 00.
+// The frame of fields and of one or two bytes of data.
 fn write_encoded(
     direction: Direction,
+    fields: Fields,
+    encoded: Option<Encoded>,
     buf: &mut [u8],
     at: usize,
-    zone: u8,
-    command: u8,
-    encoded: Encoded,
-) -> Written
-    ensures answers { result ≡ write_answered (raw_rules (encoded_data encoded)) buf.old at (frame_of direction zone command 0 (encoded_data encoded)) }
-    ensures leaves { buf.new ≡ write_left (raw_rules (encoded_data encoded)) buf.old at (frame_of direction zone command 0 (encoded_data encoded)) }
+) -> Result<usize, Refusal>
+    ensures answers { result ≡ write_answered (raw_rules (encoded_data encoded)) buf.old at (frame_of direction fields.zone fields.command fields.answer (encoded_data encoded)) }
+    ensures leaves { buf.new ≡ write_left (raw_rules (encoded_data encoded)) buf.old at (frame_of direction fields.zone fields.command fields.answer (encoded_data encoded)) }
 {
+    // tried: one slice for the three arms; the borrow checker does not cover what is borrowed on one path alone
     match encoded {
-        Encoded::One(first) => write_raw(direction, buf, at, zone, command, 0, &[first]),
-        Encoded::Two(first, second) => {
-            write_raw(direction, buf, at, zone, command, 0, &[first, second])
-        }
-        Encoded::NoCode => write_raw(direction, buf, at, zone, command, 0, &[]),
-    }
-}
-
-// A refusal's number, passed on.
-fn judged_written(judged: Judged) -> Written
-    ensures { result ≡ judged_written judged }
-{
-    match judged {
-        Judged::Legal(_) => Written::Refused(0),
-        Judged::Refused(number) => Written::Refused(number),
-    }
-}
-
-fn reading_written(reading: Reading) -> Written
-    ensures { result ≡ reading_written reading }
-{
-    match reading {
-        Reading::Message(_) => Written::Refused(0),
-        Reading::Refused(number) => Written::Refused(number),
+        Some(Encoded::One(first)) => write_raw(direction, fields, &[first], buf, at),
+        Some(Encoded::Two(first, second)) => write_raw(
+            direction,
+            fields,
+            &[first, second],
+            buf,
+            at,
+        ),
+        None => write_raw(direction, fields, &[], buf, at),
     }
 }

@@ -1,55 +1,56 @@
--- Rules in their order: whether one refuses, and with which number, whatever is answered.
+-- Rules in their order: whether one refuses, and with which refusal (a list of none has any), whatever is answered.
 use mathlib.Core.Path.{◌≡◌, refl, sym, ◌∙◌}
 use mathlib.Core.Bool.{Bool, true, false, cond, ◌||◌}
 use mathlib.Core.List.{List, [], ◌∷◌, ◌++◌}
-use Prim.Native.Nat.{ℕ}
+use Rattle.refusals.specs.declared.refusal.Refusal.{Refusal}
+use Rattle.refusals.specs.declared.refusal.Refusal.TheVariants.{WrongZone}
 use Rattle.refusals.specs.Rule.{Rule, ruled}
 
 abbrev pub refuses : List Rule → Bool
 refuses [] = false
 refuses (l ∷ ls) = l.applies || refuses ls
 
-abbrev pub first_number : List Rule → ℕ
-first_number [] = 0
-first_number (l ∷ ls) = cond l.applies l.number (first_number ls)
+abbrev pub first_refused : List Rule → Refusal
+first_refused [] = WrongZone
+first_refused (l ∷ ls) = cond l.applies l.refusal (first_refused ls)
 
-pub ruled_is : {A : Type 0} (ls : List Rule) (refused : ℕ → A) (accepted : A) → ruled ls refused accepted ≡ cond (refuses ls) (refused (first_number ls)) accepted
+pub ruled_is : {A : Type 0} (ls : List Rule) (refused : Refusal → A) (accepted : A) → ruled ls refused accepted ≡ cond (refuses ls) (refused (first_refused ls)) accepted
 ruled_is [] refused accepted = refl
 ruled_is {A} (l ∷ ls) refused accepted = go l.applies (ruled_is ls refused accepted)
   where
-    go : (t : Bool) → ruled ls refused accepted ≡ cond (refuses ls) (refused (first_number ls)) accepted
-        → cond t (refused l.number) (ruled ls refused accepted) ≡ cond (t || refuses ls) (refused (cond t l.number (first_number ls))) accepted
+    go : (t : Bool) → ruled ls refused accepted ≡ cond (refuses ls) (refused (first_refused ls)) accepted
+        → cond t (refused l.refusal) (ruled ls refused accepted) ≡ cond (t || refuses ls) (refused (cond t l.refusal (first_refused ls))) accepted
     go true rest = refl
     go false rest = rest
 
 -- rules after rules
-pub ruled_append : {A : Type 0} (ls ms : List Rule) (refused : ℕ → A) (accepted : A) → ruled (ls ++ ms) refused accepted ≡ ruled ls refused (ruled ms refused accepted)
+pub ruled_append : {A : Type 0} (ls ms : List Rule) (refused : Refusal → A) (accepted : A) → ruled (ls ++ ms) refused accepted ≡ ruled ls refused (ruled ms refused accepted)
 ruled_append [] ms refused accepted = refl
 ruled_append {A} (l ∷ ls) ms refused accepted = go l.applies (ruled_append ls ms refused accepted)
   where
     go : (t : Bool) → ruled (ls ++ ms) refused accepted ≡ ruled ls refused (ruled ms refused accepted)
-        → cond t (refused l.number) (ruled (ls ++ ms) refused accepted) ≡ cond t (refused l.number) (ruled ls refused (ruled ms refused accepted))
+        → cond t (refused l.refusal) (ruled (ls ++ ms) refused accepted) ≡ cond t (refused l.refusal) (ruled ls refused (ruled ms refused accepted))
     go true rest = refl
     go false rest = rest
 
 -- what an answer says of its rules: one that is not the accepted one was refused, and one that is no refusal was accepted
-module _ {A : Type 0} (ls : List Rule) (refused : ℕ → A) (accepted : A) where
-  pub was_refused : (x : A) → ruled ls refused accepted ≡ x → (accepted ≡ x → ⊥) → (refuses ls ≡ true) × (refused (first_number ls) ≡ x)
+module _ {A : Type 0} (ls : List Rule) (refused : Refusal → A) (accepted : A) where
+  pub was_refused : (x : A) → ruled ls refused accepted ≡ x → (accepted ≡ x → ⊥) → (refuses ls ≡ true) × (refused (first_refused ls) ≡ x)
   was_refused x e differs = go (refuses ls) (sym (ruled_is ls refused accepted) ∙ e)
     where
-      go : (t : Bool) → cond t (refused (first_number ls)) accepted ≡ x → (t ≡ true) × (refused (first_number ls) ≡ x)
+      go : (t : Bool) → cond t (refused (first_refused ls)) accepted ≡ x → (t ≡ true) × (refused (first_refused ls) ≡ x)
       go true f = (refl, f)
       go false f = absurd (differs f)
 
-  pub was_accepted : (x : A) → ruled ls refused accepted ≡ x → ((n : ℕ) → refused n ≡ x → ⊥) → (refuses ls ≡ false) × (accepted ≡ x)
+  pub was_accepted : (x : A) → ruled ls refused accepted ≡ x → ((n : Refusal) → refused n ≡ x → ⊥) → (refuses ls ≡ false) × (accepted ≡ x)
   was_accepted x e differs = go (refuses ls) (sym (ruled_is ls refused accepted) ∙ e)
     where
-      go : (t : Bool) → cond t (refused (first_number ls)) accepted ≡ x → (t ≡ false) × (accepted ≡ x)
-      go true f = absurd (differs (first_number ls) f)
+      go : (t : Bool) → cond t (refused (first_refused ls)) accepted ≡ x → (t ≡ false) × (accepted ≡ x)
+      go true f = absurd (differs (first_refused ls) f)
       go false f = (refl, f)
 
   -- the same rules, whatever is answered
-  pub refused_with : (n : ℕ) → refuses ls ≡ true → first_number ls ≡ n → ruled ls refused accepted ≡ refused n
+  pub refused_with : (n : Refusal) → refuses ls ≡ true → first_refused ls ≡ n → ruled ls refused accepted ≡ refused n
   refused_with n t e = ruled_is ls refused accepted ∙ rw (t, e)
 
   pub accepted_by : refuses ls ≡ false → ruled ls refused accepted ≡ accepted

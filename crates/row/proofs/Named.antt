@@ -19,34 +19,33 @@ use Rattle.row.specs.Computed.{own}
 use Rattle.row.specs.declared.profile.Profile.{Profile}
 use Rattle.row.specs.declared.profile.Profile.TheVariants.{A, S}
 use Rattle.row.specs.declared.table.Row.{Row}
-use Rattle.row.specs.declared.table.Found.{Found}
-use Rattle.row.specs.declared.table.Found.TheVariants as found
 use Rattle.row.proofs.Rows.{none_some, each_found}
+use Rattle.std.specs.Prelude.{None, Option, Some}
 
 -- each row stands at the place that it says: computed over the table
-stands : Each (λ (r : Row). row_at table r.place ≡ found.Row r) table
+stands : Each (λ (r : Row). row_at table r.place ≡ Some r) table
 unfolding table
-stands = each_same (λ r. row_at table r.place) found.Row table refl
+stands = each_same (λ r. row_at table r.place) Some table refl
 
-named : (p : Profile) (command : ℕ) (r : Row) → row_of p command ≡ found.Row r → row_at table r.place ≡ found.Row r
-named p command r e = each_found (λ (r : Row). row_at table r.place ≡ found.Row r) table (letter_of p) command r stands e
+named : (p : Profile) (command : ℕ) (r : Row) → row_of p command ≡ Some r → row_at table r.place ≡ Some r
+named p command r e = each_found (λ (r : Row). row_at table r.place ≡ Some r) table (letter_of p) command r stands e
 
 names : (p : Profile) (command : ℕ) → row_named (kind_of p command) ≡ row_of p command
 names p command = go (row_of p command) refl where
-  go : (f : Found) → row_of p command ≡ f → row_named (kind_number f) ≡ f
-  go (found.Row r) e = named p command r e
-  go found.NoRow e = refl
+  go : (f : Option Row) → row_of p command ≡ f → row_named (kind_number f) ≡ f
+  go (Some r) e = named p command r e
+  go None e = refl
 
-no_number : (f : Found) → kind_number f ≡ 0 → f ≡ found.NoRow
-no_number (found.Row r) e = absurd (omega (arith, e))
-no_number found.NoRow e = refl
+no_number : (f : Option Row) → kind_number f ≡ 0 → f ≡ None
+no_number (Some r) e = absurd (omega (arith, e))
+no_number None e = refl
 
-within : (rs : List Row) (place : ℕ) (r : Row) → row_at rs place ≡ found.Row r → place < length rs
+within : (rs : List Row) (place : ℕ) (r : Row) → row_at rs place ≡ Some r → place < length rs
 within [] place r e = absurd (none_some r e)
 within (x ∷ rs) zero r e = omega arith
 within (x ∷ rs) (suc place) r e = omega (arith, within rs place r e)
 
-one : (n : ℕ) (r : Row) → row_named n ≡ found.Row r → n ≡ kind_number (found.Row r)
+one : (n : ℕ) (r : Row) → row_named n ≡ Some r → n ≡ kind_number (Some r)
 unfolding table upto
 one zero r e = absurd (none_some r e)
 one (suc place) r e =
@@ -67,9 +66,9 @@ kind_promise = record {
 pub named_at : (p : Profile) (command : ℕ) → (kind_of p command ≡ 0 → ⊥) → (kind_of p command - 1 < row_count) × (row_at table (kind_of p command - 1) ≡ row_of p command)
 unfolding table
 named_at p command other = go (row_of p command) refl other where
-  go : (f : Found) → row_of p command ≡ f → (kind_number f ≡ 0 → ⊥) → (kind_number f - 1 < row_count) × (row_at table (kind_number f - 1) ≡ f)
-  go (found.Row r) e other = simp unary_clauses (within table r.place r (named p command r e), named p command r e)
-  go found.NoRow e other = absurd (other refl)
+  go : (f : Option Row) → row_of p command ≡ f → (kind_number f ≡ 0 → ⊥) → (kind_number f - 1 < row_count) × (row_at table (kind_number f - 1) ≡ f)
+  go (Some r) e other = simp unary_clauses (within table r.place r (named p command r e), named p command r e)
+  go None e other = absurd (other refl)
 
 -- does a table have the number of each of the 256 command codes
 abbrev pub has_kinds : Profile → List (List ℕ) → Bool

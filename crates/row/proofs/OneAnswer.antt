@@ -14,11 +14,11 @@ use Rattle.row.specs.declared.table.Row.{Row}
 pub profile_of_one : (letter : ℕ) → OneAnswer (λ x. x ≡ profile_of letter)
 profile_of_one letter = one (profile_of letter)
 
-pub letter_of_one : (profile : Profile) → OneAnswer (λ x. x ≡ letter_of profile)
-letter_of_one profile = one (letter_of profile)
+pub letter_one : (self : Profile) → OneAnswer (λ x. x ≡ letter_of self)
+letter_one self = one (letter_of self)
 
-pub zones_of_one : (profile : Profile) → OneAnswer (λ x. x ≡ zones_of profile)
-zones_of_one profile = one (zones_of profile)
+pub zones_one : (self : Profile) → OneAnswer (λ x. x ≡ zones_of self)
+zones_one self = one (zones_of self)
 
 pub find_row_one : (profile : Profile) (command : ℕ) → OneAnswer (λ x. x ≡ row_of profile command)
 find_row_one profile command = one (row_of profile command)

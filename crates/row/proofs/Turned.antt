@@ -10,11 +10,9 @@ use Rattle.row.specs.Signed.{number_of, code_of}
 use Rattle.row.specs.MinusZero.{is_minus_zero, normal, normal_in}
 use Rattle.row.specs.MinusZeroPromise.{concerned, MinusZeroPromise}
 use Rattle.row.specs.Table.{table}
-use Rattle.row.specs.declared.signed.Coded.TheVariants.{Code}
 use Rattle.row.specs.declared.table.Row.{Row}
-use Rattle.row.specs.declared.table.Found.{Found}
-use Rattle.row.specs.declared.table.Found.TheVariants as found
 use Rattle.row.proofs.Inverse.{signed_promise}
+use Rattle.std.specs.Prelude.{None, Option, Some}
 
 concerned_rows : in_order concerned table ≡ (0x41, 0x3A) ∷ (0x41, 0x45) ∷ (0x41, 0x46) ∷ (0x53, 0x3B) ∷ []
 unfolding table in_order
@@ -44,9 +42,9 @@ module _ (row : Row) (code : ℕ) where
   unfolding number_of
   means = by_zero (λ c n. number_of n ≡ number_of c) (λ s. refl) (λ e. refl)
 
-  written : row.signed ≡ true → code < 0x100 → code_of (number_of code) ≡ Code (normal row code)
+  written : row.signed ≡ true → code < 0x100 → code_of (number_of code) ≡ Some (normal row code)
   unfolding number_of code_of
-  written s h = by_zero (λ c n. code_of (number_of c) ≡ Code n) (λ t. refl) (λ e. signed_promise.code_number code h (not_zero e))
+  written s h = by_zero (λ c n. code_of (number_of c) ≡ Some n) (λ t. refl) (λ e. signed_promise.code_number code h (not_zero e))
     where
       not_zero : is_minus_zero row code ≡ false → code ≡ 0x80 → ⊥
       not_zero e = eqb-false code 0x80 (go (eqb code 0x80) e)
@@ -70,6 +68,6 @@ minus_zero_promise = record {
 }
 
 -- what a byte is turned into is turned no further
-pub turned_again : (f : Found) (b : ℕ) → normal_in f (normal_in f b) ≡ normal_in f b
-turned_again (found.Row row) b = let done = minus_zero_promise.again row b in rw done
-turned_again found.NoRow b = refl
+pub turned_again : (f : Option Row) (b : ℕ) → normal_in f (normal_in f b) ≡ normal_in f b
+turned_again (Some row) b = let done = minus_zero_promise.again row b in rw done
+turned_again None b = refl

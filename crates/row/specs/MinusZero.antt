@@ -1,9 +1,7 @@
 -- Document 02, C-14: "Read 80 as zero in A 3A, A 45 and A 46, in commands and answers, and in S 3B's answers .. We still write 00." These
 -- are the signed rows, and no other row is (`MinusZeroPromise`).
-use Rattle.std.specs.Prelude.{ℕ, Bool, cond, ◌&&◌, eqb}
+use Rattle.std.specs.Prelude.{ℕ, Bool, cond, ◌&&◌, eqb, None, Option, Some}
 use Rattle.row.specs.declared.table.Row.{Row}
-use Rattle.row.specs.declared.table.Found.{Found}
-use Rattle.row.specs.declared.table.Found.TheVariants as found
 
 -- a code that is minus zero: 80, in a signed row
 abbrev pub is_minus_zero : Row → ℕ → Bool
@@ -14,6 +12,6 @@ abbrev pub normal : Row → ℕ → ℕ
 normal row code = cond (is_minus_zero row code) 0x00 code
 
 -- in the row that was found; without one every byte stands for itself
-abbrev pub normal_in : Found → ℕ → ℕ
-normal_in (found.Row row) code = normal row code
-normal_in found.NoRow code = code
+abbrev pub normal_in : Option Row → ℕ → ℕ
+normal_in (Some row) code = normal row code
+normal_in None code = code

@@ -1,13 +1,11 @@
 -- Document 01, 'Commands of the two profiles': the table, row by row, in its order; with document 02, C-14: "Read 80 as zero in A 3A,
 -- A 45 and A 46, in commands and answers, and in S 3B's answers; A 45 runs to A8".
-use Rattle.std.specs.Prelude.{ℕ, suc, Bool, false, cond, ◌&&◌, ◌||◌, List, [], ◌∷◌, eqb}
+use Rattle.std.specs.Prelude.{ℕ, suc, Bool, false, cond, ◌&&◌, ◌||◌, List, [], ◌∷◌, eqb, None, Option, Some}
 use Rattle.row.specs.Profile.{letter_of}
 use Rattle.row.specs.declared.profile.Profile.{Profile}
 use Rattle.row.specs.declared.profile.Profile.TheVariants.{A, S}
 use Rattle.row.specs.declared.table.Codes.{Codes}
 use Rattle.row.specs.declared.table.Row.{Row}
-use Rattle.row.specs.declared.table.Found.{Found}
-use Rattle.row.specs.declared.table.Found.TheVariants as found
 
 -- codes from one to another; and no codes
 infix 40 ◌⋯◌
@@ -109,10 +107,10 @@ abbrev pub is_row_of : ℕ → ℕ → Row → Bool
 is_row_of letter command r = eqb r.profile letter && eqb r.code command
 
 -- the first of some rows that a profile has for a command, or none
-unfoldable pub first_row : List Row → ℕ → ℕ → Found
-first_row [] letter command = found.NoRow
-first_row (r ∷ rs) letter command = cond (is_row_of letter command r) (found.Row r) (first_row rs letter command)
+unfoldable pub first_row : List Row → ℕ → ℕ → Option Row
+first_row [] letter command = None
+first_row (r ∷ rs) letter command = cond (is_row_of letter command r) (Some r) (first_row rs letter command)
 
 -- the row that a profile has for a command; 2: "command without a row in the profile"
-abbrev pub row_of : Profile → ℕ → Found
+abbrev pub row_of : Profile → ℕ → Option Row
 row_of p command = first_row table (letter_of p) command

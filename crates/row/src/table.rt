@@ -1,12 +1,12 @@
 // Codes from low to high; none where low is above high.
-#[derive(Clone, Copy)]
+#[derive(Clone, Copy, Debug, PartialEq, Eq)]
 pub struct Codes {
     pub low: u8,
     pub high: u8,
 }
 
 // A row of document 01's table: what a command may hold, and what an answer may.
-#[derive(Clone, Copy)]
+#[derive(Clone, Copy, Debug, PartialEq, Eq)]
 pub struct Row {
     // its place in the table, from 0
     pub place: usize,
@@ -37,12 +37,6 @@ pub struct Row {
     pub off: bool,
     // a sheet may set it
     pub sheet: bool,
-}
-
-#[derive(Clone, Copy)]
-pub enum Found {
-    Row(Row),
-    NoRow,
 }
 
 // How many rows the table has.

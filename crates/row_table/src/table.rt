@@ -4,11 +4,11 @@ ghost use Rattle.row.specs.Kind.{kind_of, HasKinds, row_at};
 ghost use Rattle.row.specs.Computed.{codes_if, row_from, own};
 
 use row::profile::Profile;
-use row::table::{Codes, Found, ROW_COUNT, Row};
+use row::table::{Codes, ROW_COUNT, Row};
 
 // The numbers of each row: profile, code, zones; which of its answer codes a command sets (0 none, 1 those
 // of the first range, 2 of both); the answer codes, from and to, twice (1 to 0: none); request; F1 and
-// F2 (1 up and down, 2 on and off) or 02 (3 toggle); pair; signed; off; sheet.
+// F2 (1 up and down, 2 on and off) or 02 (3 toggle); pair; signed; off; sheet. Document 01 names this form: a "constant table".
 const ROWS: [[u8; 14]; ROW_COUNT] = [
     [b'A', 0x0F, 1, 0, 0x00, 0x01, 1, 0, 1, 0, 0, 0, 0, 0], // direct
     [b'A', 0x10, 1, 0, 0x00, 0x08, 1, 0, 1, 0, 0, 0, 0, 0], // decode 2ch
@@ -32,7 +32,7 @@ const ROWS: [[u8; 14]; ROW_COUNT] = [
 ];
 
 // For each command code, in lines of sixteen, the number of the row that profile A has for it: the row's place in `ROWS`
-// and one more; 0 for none.
+// and one more; 0 for none. Document 02 names this form: "a table of 256 numbers per profile".
 const KINDS_A: [[u8; 16]; 16] = [
     [0, 0, 0, 0, 0, 0, 0, 0, 0, 0, 0, 0, 0, 0, 0, 1], // 00 to 0F
     [2, 3, 0, 0, 0, 0, 0, 0, 0, 0, 0, 0, 0, 0, 0, 0], // 10 to 1F
@@ -74,26 +74,22 @@ const KINDS_S: [[u8; 16]; 16] = [
 
 // The row that a profile has for a command.
 #[tactic(auto, using(row::proofs::Named::kind_promise, row::proofs::Named::named_at))]
-pub fn find_row(profile: Profile, command: u8) -> Found
+pub fn find_row(profile: Profile, command: u8) -> Option<Row>
     ensures { result ≡ row_of profile command }
 {
-    let kind = kind_of(profile, command);
-    if kind == 0 {
-        return Found::NoRow;
-    }
-    let place = kind as usize - 1;
-    Found::Row(row_from(numbers_at(place), place))
+    let place = (kind_of(profile, command) as usize).checked_sub(1)?;
+    Some(row_from(numbers_at(place), place))
 }
 
-// The number of the row that a profile has for a command; 0 for none.
+// The number of the row that a profile has for a command; 0 for none, as document 01's tables of numbers have it.
 fn kind_of(profile: Profile, command: u8) -> u8
     ensures { result ≡ kind_of profile command }
 {
     kind_in_tables(profile, KINDS_A, KINDS_S, command)
 }
 
-// The number at a command's code, in the profile's own of two tables. The lines are written out, and the places in a line,
-// for the reason that `numbers_at` gives.
+// The number at a command's code, in the profile's own of two tables. The lines are written out, and in `kind_in_line` the
+// places, so that each number is a constant: indexed, the look-up costs a frame nearly thirty instructions more (docs/BENCHMARK.md).
 #[tactic(auto, using(row::proofs::Named::line_at, lists::proofs::Past::past_all))]
 fn kind_in_tables(profile: Profile, a: [[u8; 16]; 16], s: [[u8; 16]; 16], command: u8) -> u8
     requires { HasKinds Profile.A a × HasKinds Profile.S s }
@@ -132,7 +128,7 @@ fn kind_in_own(profile: Profile, a: [[u8; 16]; 16], s: [[u8; 16]; 16], line: usi
     }
 }
 
-// The number at a place of a line.
+// The number at a place of a line; written out for the reason that `kind_in_tables` gives.
 fn kind_in_line(line: [u8; 16], low: u8) -> u8
     requires { low < 16 }
     ensures { result ≡ get_or line low 0 }
@@ -158,11 +154,11 @@ fn kind_in_line(line: [u8; 16], low: u8) -> u8
 }
 
 // The numbers of a row. The places are written out, so that the compiler takes the numbers as constants: where it does
-// not know the place it builds the whole table in memory, at each call.
+// not know the place it builds the whole table in memory, at each call (docs/BENCHMARK.md).
 #[tactic(auto, unfolding(row::specs::Table::table))]
 fn numbers_at(place: usize) -> [u8; 14]
     requires { place < row_count }
-    ensures { Found.Row (row_from result place) ≡ row_at table place }
+    ensures { Some (row_from result place) ≡ row_at table place }
 {
     let rows = ROWS;
     match place {
@@ -192,23 +188,42 @@ fn numbers_at(place: usize) -> [u8; 14]
 fn row_from(numbers: [u8; 14], place: usize) -> Row
     ensures { result ≡ row_from numbers place }
 {
+    let [
+        profile,
+        code,
+        zones,
+        sets,
+        low,
+        high,
+        low2,
+        high2,
+        request,
+        moves,
+        pair,
+        signed,
+        off,
+        sheet,
+    ] = numbers;
     Row {
-        place: place,
-        profile: numbers[0],
-        code: numbers[1],
-        zones: numbers[2],
-        settings: codes_if(numbers[3] != 0, numbers[4], numbers[5]),
-        settings2: codes_if(numbers[3] == 2, numbers[6], numbers[7]),
-        answers: codes_if(true, numbers[4], numbers[5]),
-        answers2: codes_if(true, numbers[6], numbers[7]),
-        request: numbers[8] == 1,
-        steps: numbers[9] == 1,
-        switch: numbers[9] == 2,
-        toggle: numbers[9] == 3,
-        pair: numbers[10] == 1,
-        signed: numbers[11] == 1,
-        off: numbers[12] == 1,
-        sheet: numbers[13] == 1,
+        place,
+        profile,
+        code,
+        zones,
+        settings: codes_if(sets != 0, low, high),
+        settings2: codes_if(sets == 2, low2, high2),
+        answers: Codes { low, high },
+        answers2: Codes {
+            low: low2,
+            high: high2,
+        },
+        request: request == 1,
+        steps: moves == 1,
+        switch: moves == 2,
+        toggle: moves == 3,
+        pair: pair == 1,
+        signed: signed == 1,
+        off: off == 1,
+        sheet: sheet == 1,
     }
 }
 
@@ -217,10 +232,8 @@ fn codes_if(has: bool, low: u8, high: u8) -> Codes
     ensures { result ≡ codes_if has low high }
 {
     if has {
-        return Codes {
-            low: low,
-            high: high,
-        };
+        Codes { low, high }
+    } else {
+        Codes { low: 1, high: 0 }
     }
-    Codes { low: 1, high: 0 }
 }

@@ -19,53 +19,55 @@ use Rattle.sheet.specs.Computed.{fault_of}
 use Rattle.sheet.specs.SheetPromise.{AtFault, Sound, LowestFault, AllSound, Says, SheetPromise}
 use Rattle.sheet.specs.declared.line.Line.{Line}
 use Rattle.sheet.specs.declared.sheet.Sheet.{Sheet}
-use Rattle.sheet.specs.declared.check.Verdict.{Verdict}
-use Rattle.sheet.specs.declared.check.Verdict.TheVariants.{Accepted, Refused}
 use Rattle.sheet.proofs.Faults.{lowest_sound, lowest_fault_lem, first_short, first_many, verdict_long}
+use Rattle.std.specs.Prelude.{Err, Ok, Result, Some, None}
+use Rattle.refusals.specs.declared.refusal.Refusal.{Refusal}
+use Rattle.refusals.specs.declared.refusal.Refusal.TheVariants.{IllegalLine, RepeatedLine, TooManyLines}
+use Rattle.refusals.specs.declared.refusal.Fault.{Fault}
+use Rattle.refusals.specs.Refusal.{number, fault}
 
 module _ (profile : Profile) where
-  sound_is : (earlier : List Line) (l : Line) → Sound profile earlier l → fault_of profile earlier l ≡ 0
+  sound_is : (earlier : List Line) (l : Line) → Sound profile earlier l → fault_of profile earlier l ≡ None
   sound_is earlier l s = rw (s.0, s.1)
 
-  fault_is : (earlier : List Line) (l : Line) (n : ℕ) → AtFault profile earlier l n → (fault_of profile earlier l ≡ n) × (n ≡ 0 → ⊥)
-  fault_is earlier l n (inl a) = (rw (a.0, a.1), λ e. omega (arith, a.1))
-  fault_is earlier l n (inr a) = (rw (a.0, a.1, a.2), λ e. omega (arith, a.2))
+  fault_is : (earlier : List Line) (l : Line) (e : Refusal) → AtFault profile earlier l e → fault_of profile earlier l ≡ Some e
+  fault_is earlier l e (inl a) = rw (a.0, a.1)
+  fault_is earlier l e (inr a) = rw (a.0, a.1, a.2)
 
-  accepts : (earlier ls : List Line) → AllSound profile earlier ls → lowest_fault profile earlier ls ≡ Accepted
+  accepts : (earlier ls : List Line) → AllSound profile earlier ls → lowest_fault profile earlier ls ≡ Ok tt
   unfolding lowest_fault
   accepts earlier [] s = refl
   accepts earlier (l ∷ ls) s = lowest_sound profile earlier l ls (sound_is earlier l s.0) ∙ accepts (earlier ++ l ∷ []) ls s.1
 
-  refuses : (earlier ls : List Line) (i n : ℕ) → LowestFault profile earlier ls i n → lowest_fault profile earlier ls ≡ Refused n (length earlier + i)
-  refuses earlier [] i n w = absurd w
-  refuses earlier (l ∷ ls) zero n w =
-      let f = fault_is earlier l n w in
-      lowest_fault_lem profile earlier l ls n f.0 f.1 ∙ ap (λ (k : ℕ). Refused n k) (sym (add-zero (length earlier)))
-  refuses earlier (l ∷ ls) (suc i) n w =
-      lowest_sound profile earlier l ls (sound_is earlier l w.0) ∙ refuses (earlier ++ l ∷ []) ls i n w.1
-      ∙ ap (λ (k : ℕ). Refused n k) (omega (arith, length-append earlier (l ∷ [])))
+  refuses : (earlier ls : List Line) (i : ℕ) (e : Refusal) → LowestFault profile earlier ls i e → lowest_fault profile earlier ls ≡ Err (fault e (length earlier + i))
+  refuses earlier [] i e w = absurd w
+  refuses earlier (l ∷ ls) zero e w =
+      lowest_fault_lem profile earlier l ls e (fault_is earlier l e w) ∙ ap (λ (k : ℕ). Err (fault e k)) (sym (add-zero (length earlier)))
+  refuses earlier (l ∷ ls) (suc i) e w =
+      lowest_sound profile earlier l ls (sound_is earlier l w.0) ∙ refuses (earlier ++ l ∷ []) ls i e w.1
+      ∙ ap (λ (k : ℕ). Err (fault e k)) (omega (arith, length-append earlier (l ∷ [])))
 
   -- each line is at fault or sound
-  line_either : (earlier : List Line) (l : Line) → ((n : ℕ) × AtFault profile earlier l n) ⊎ Sound profile earlier l
+  line_either : (earlier : List Line) (l : Line) → ((e : Refusal) × AtFault profile earlier l e) ⊎ Sound profile earlier l
   line_either earlier l = go (is_legal profile l) (is_repeated earlier l) refl refl
     where
-      go : (t u : Bool) → is_legal profile l ≡ t → is_repeated earlier l ≡ u → ((n : ℕ) × AtFault profile earlier l n) ⊎ Sound profile earlier l
-      go false u e f = inl (7, inl (e, refl))
-      go true true e f = inl (8, inr (e, f, refl))
+      go : (t u : Bool) → is_legal profile l ≡ t → is_repeated earlier l ≡ u → ((e : Refusal) × AtFault profile earlier l e) ⊎ Sound profile earlier l
+      go false u e f = inl (IllegalLine, inl (e, refl))
+      go true true e f = inl (RepeatedLine, inr (e, f, refl))
       go true false e f = inr (e, f)
 
-  either : (earlier ls : List Line) → ((i : ℕ) × (n : ℕ) × LowestFault profile earlier ls i n) ⊎ AllSound profile earlier ls
+  either : (earlier ls : List Line) → ((i : ℕ) × (e : Refusal) × LowestFault profile earlier ls i e) ⊎ AllSound profile earlier ls
   either earlier [] = inr tt
   either earlier (l ∷ ls) = go (line_either earlier l) (either (earlier ++ l ∷ []) ls)
     where
-      go : ((n : ℕ) × AtFault profile earlier l n) ⊎ Sound profile earlier l → ((i : ℕ) × (n : ℕ) × LowestFault profile (earlier ++ l ∷ []) ls i n) ⊎ AllSound profile (earlier ++ l ∷ []) ls
-          → ((i : ℕ) × (n : ℕ) × LowestFault profile earlier (l ∷ ls) i n) ⊎ AllSound profile earlier (l ∷ ls)
+      go : ((e : Refusal) × AtFault profile earlier l e) ⊎ Sound profile earlier l → ((i : ℕ) × (e : Refusal) × LowestFault profile (earlier ++ l ∷ []) ls i e) ⊎ AllSound profile (earlier ++ l ∷ []) ls
+          → ((i : ℕ) × (e : Refusal) × LowestFault profile earlier (l ∷ ls) i e) ⊎ AllSound profile earlier (l ∷ ls)
       go (inl a) rest = inl (zero, a.0, a.1)
       go (inr s) (inl w) = inl (suc w.0, w.1, (s, w.2))
       go (inr s) (inr w) = inr (s, w)
 
   -- the limit first
-  long : (ls : List Line) → sheet_limit < length ls → sheet_verdict profile ls ≡ Refused 6 sheet_limit
+  long : (ls : List Line) → sheet_limit < length ls → sheet_verdict profile ls ≡ Err (fault TooManyLines sheet_limit)
   unfolding sheet_verdict
   long ls h = rw (lt-ltb sheet_limit (length ls) h)
 
@@ -73,17 +75,13 @@ module _ (profile : Profile) where
   unfolding sheet_verdict
   short ls h = rw (le-ltb sheet_limit (length ls) h)
 
-  pub never : (n i : ℕ) → Accepted ≡ Refused n i → ⊥
-  never n i e = let z : ◌≡◌ {A = ℕ} 0 1 = cc in omega arith
-
-  pub only : (ls : List Line) → sheet_verdict profile ls ≡ Accepted → (length ls ≤ sheet_limit) × AllSound profile [] ls
+  pub only : (ls : List Line) → sheet_verdict profile ls ≡ Ok tt → (length ls ≤ sheet_limit) × AllSound profile [] ls
   only ls e = go (ltb sheet_limit (length ls)) refl (either [] ls)
     where
-      go : (t : Bool) → ltb sheet_limit (length ls) ≡ t → ((i : ℕ) × (n : ℕ) × LowestFault profile [] ls i n) ⊎ AllSound profile [] ls
+      go : (t : Bool) → ltb sheet_limit (length ls) ≡ t → ((i : ℕ) × (e : Refusal) × LowestFault profile [] ls i e) ⊎ AllSound profile [] ls
           → (length ls ≤ sheet_limit) × AllSound profile [] ls
-      go true f w = absurd (never 6 sheet_limit (sym e ∙ long ls (ltb-true _ _ f)))
-      go false f (inl w) =
-          absurd (never w.1 (0 + w.0) (sym e ∙ short ls (ltb-false _ _ f) ∙ refuses [] ls w.0 w.1 w.2))
+      go true f w = absurd (cc (e, long ls (ltb-true _ _ f)))
+      go false f (inl w) = absurd (cc (e, short ls (ltb-false _ _ f), refuses [] ls w.0 w.1 w.2))
       go false f (inr w) = (ltb-false _ _ f, w)
 
 -- lines that are brought together by value
@@ -150,14 +148,14 @@ verdict_together profile ls = go (ltb sheet_limit (length ls)) refl
         verdict_long (with_all no_lines ls) profile (too_many [] ls no_lines holds_none (omega arith) (omega arith)) ∙ sym (long profile ls h)
     go false e = ap (sheet_verdict profile) (all_kept ls (ltb-false _ _ e))
 
-pub says : (v : Verdict) (n i : ℕ) → v ≡ Refused n i → Says v n i
-says v n i e = rw e (refl, refl)
+pub says : (v : Result (Unit {0}) Fault) (e : Refusal) (i : ℕ) → v ≡ Err (fault e i) → Says v (number e) i
+says v e i h = rw h (refl, refl)
 
 pub sheet_promise : (profile : Profile) (ls : List Line) → SheetPromise profile ls
 sheet_promise profile ls = record {
-  long = λ h. says (sheet_verdict profile ls) 6 sheet_limit (long profile ls h);
+  long = λ h. says (sheet_verdict profile ls) TooManyLines sheet_limit (long profile ls h);
   fault =
-      λ h i n w. says (sheet_verdict profile ls) n i (short profile ls h ∙ refuses profile [] ls i n w ∙ ap (λ (k : ℕ). Refused n k) (zero-add i));
+      λ h i e w. says (sheet_verdict profile ls) e i (short profile ls h ∙ refuses profile [] ls i e w ∙ ap (λ (k : ℕ). Err (fault e k)) (zero-add i));
   sound = λ h w. let e = short profile ls h ∙ accepts profile [] ls w in (e, (ap verdict_number e, ap verdict_place e));
   either = either profile [] ls;
   only = only profile ls;
@@ -166,5 +164,5 @@ sheet_promise profile ls = record {
 }
 
 -- an accepted sheet by value counts no more than the limit
-pub accepted_short : (profile : Profile) (s : Sheet) → sheet_verdict profile (lines_of s) ≡ Accepted → s.count ≤ sheet_limit
+pub accepted_short : (profile : Profile) (s : Sheet) → sheet_verdict profile (lines_of s) ≡ Ok tt → s.count ≤ sheet_limit
 accepted_short profile s e = omega (arith, (only profile (lines_of s) e).0, first_many s.lines s.count)

@@ -10,15 +10,14 @@ use Rattle.row.specs.Table.{table, first_row, row_of}
 use Rattle.row.specs.declared.profile.Profile.{Profile}
 use Rattle.row.specs.declared.profile.Profile.TheVariants.{A}
 use Rattle.row.specs.declared.table.Row.{Row}
-use Rattle.row.specs.declared.table.Found.TheVariants as found
 use Rattle.row.proofs.Rows.{each_found}
 use Rattle.judging.specs.Judge.{row_judged}
-use Rattle.judging.specs.declared.judge.Judged.{Judged}
-use Rattle.judging.specs.declared.judge.Judged.TheVariants as judged
 use Rattle.judging.proofs.Judges.{judged_lies}
 use Rattle.sheet.specs.Line.{is_sheet_value, legal_in, is_legal}
 use Rattle.sheet.specs.SheetValuePromise.{is_trim, SheetValuePromise}
 use Rattle.sheet.specs.declared.line.Line.{Line}
+use Rattle.std.specs.Prelude.{Err, Ok, Result, Some}
+use Rattle.refusals.specs.declared.refusal.Refusal.{Refusal}
 
 no_80 : Each (λ (row : Row). is_sheet_value row 0x80 ≡ false) table
 unfolding table
@@ -28,11 +27,11 @@ eighty : (profile : Profile) (l : Line) → l.value ≡ 0x80 → is_legal profil
 unfolding is_legal
 eighty profile l e = ap (legal_in (row_judged profile l.zone l.command)) e ∙ go (row_judged profile l.zone l.command) refl
   where
-    go : (j : Judged) → row_judged profile l.zone l.command ≡ j → legal_in j 0x80 ≡ false
-    go (judged.Legal row) f =
+    go : (j : Result Row Refusal) → row_judged profile l.zone l.command ≡ j → legal_in j 0x80 ≡ false
+    go (Ok row) f =
         each_found (λ (r : Row). is_sheet_value r 0x80 ≡ false) table (letter_of profile) l.command row no_80
         (judged_lies profile l.zone l.command row f).there
-    go (judged.Refused n) f = refl
+    go (Err n) f = refl
 
 abbrev agrees : Row → ℕ → Bool
 agrees row v = cond (is_sheet_value row v) (is_trim v) (not (is_trim v))
@@ -43,10 +42,10 @@ agree true false e = cc
 agree false true e = cc
 agree false false e = refl
 
-same_row : (r k : Row) → found.Row r ≡ found.Row k → r ≡ k
+same_row : (r k : Row) → Some r ≡ Some k → r ≡ k
 same_row r k e = cc
 
-all_agree : (row : Row) → row_of A 0x45 ≡ found.Row row → upto 256 (agrees row) ≡ true
+all_agree : (row : Row) → row_of A 0x45 ≡ Some row → upto 256 (agrees row) ≡ true
 unfolding first_row table upto
 all_agree row e = subst (λ (r : Row). upto 256 (agrees r) ≡ true) (same_row _ row e) refl
 

@@ -8,10 +8,12 @@ use Rattle.row.specs.declared.profile.Profile.TheVariants.{A}
 use Rattle.judging.specs.Judge.{row_judged}
 use Rattle.sheet.specs.Line.{is_legal}
 use Rattle.sheet.specs.Check.{lowest_fault, sheet_verdict}
-use Rattle.sheet.specs.declared.check.Verdict.TheVariants.{Refused}
+use Rattle.std.specs.Prelude.{Err}
+use Rattle.refusals.specs.declared.refusal.Refusal.TheVariants.{IllegalLine, TooManyLines}
+use Rattle.refusals.specs.Refusal.{fault}
 
 -- document 02, C-15: "6 now from 25 lines", before 7 and with the limit as its place; up to the limit the lines are judged
 pub limit_judged : map (λ (n : ℕ). sheet_verdict A (replicate n (record { zone = 9; command = 0x99; value = 0x00 }))) (13 ∷ 24 ∷ 25 ∷ 40 ∷ [])
-    ≡ Refused 7 0 ∷ Refused 7 0 ∷ Refused 6 24 ∷ Refused 6 24 ∷ []
+    ≡ Err (fault IllegalLine 0) ∷ Err (fault IllegalLine 0) ∷ Err (fault TooManyLines 24) ∷ Err (fault TooManyLines 24) ∷ []
 unfolding sheet_verdict lowest_fault is_legal row_judged first_row table
 limit_judged = refl

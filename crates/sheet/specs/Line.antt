@@ -1,22 +1,21 @@
 -- Document 01, 'Commands of the two profiles': "† marks a sheet row: its legal sheet values are the setting codes, without request,
 -- steps or toggle"; 'Sheet, sheet file and run': "A sheet comes as a list of lines, each a zone, a command and a value"; document 02, C-14:
 -- "sheets refuse 80 with 7 as before".
-use Rattle.std.specs.Prelude.{ℕ, Bool, false, not, ◌&&◌, ◌||◌, List, [], ◌∷◌, eqb}
+use Rattle.std.specs.Prelude.{ℕ, Bool, false, not, ◌&&◌, ◌||◌, List, [], ◌∷◌, eqb, Err, Ok, Result}
 use Rattle.row.specs.MinusZero.{is_minus_zero}
 use Rattle.row.specs.declared.profile.Profile.{Profile}
 use Rattle.row.specs.declared.table.Row.{Row}
 use Rattle.judging.specs.Judge.{is_setting, row_judged}
-use Rattle.judging.specs.declared.judge.Judged.{Judged}
-use Rattle.judging.specs.declared.judge.Judged.TheVariants as judged
 use Rattle.sheet.specs.declared.line.Line.{Line}
+use Rattle.refusals.specs.declared.refusal.Refusal.{Refusal}
 
 abbrev pub is_sheet_value : Row → ℕ → Bool
 is_sheet_value row value = row.sheet && (not (is_minus_zero row value) && is_setting row value)
 
 -- the value is a sheet value of the row that was found for its zone
-abbrev pub legal_in : Judged → ℕ → Bool
-legal_in (judged.Legal row) value = is_sheet_value row value
-legal_in (judged.Refused n) value = false
+abbrev pub legal_in : Result Row Refusal → ℕ → Bool
+legal_in (Ok row) value = is_sheet_value row value
+legal_in (Err e) value = false
 
 -- 7: "sheet line whose zone, row or value is not legal for a sheet"
 unfoldable pub is_legal : Profile → Line → Bool

@@ -5,7 +5,8 @@ pub const SHEET_LIMIT: usize = 24;
 
 // The lines of a sheet, by value. A count over the limit stands for any longer sheet: past the limit no
 // line is kept.
-#[derive(Clone, Copy)]
+// An array and a count, and no slice: a sheet by value owns its lines, and nothing here is on a heap.
+#[derive(Clone, Copy, Debug, PartialEq, Eq)]
 pub struct Sheet {
     pub count: usize,
     pub lines: [Line; SHEET_LIMIT],

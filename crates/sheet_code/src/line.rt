@@ -1,7 +1,6 @@
 ghost use Rattle.std.specs.Prelude.{◌≡◌};
 ghost use Rattle.sheet.specs.Line.{is_sheet_value, is_legal, same_cell};
 
-use judging::judge::Judged;
 use judging_code::judge::{is_setting, judge_row};
 use row::profile::Profile;
 use row::signed::is_minus_zero;
@@ -14,31 +13,19 @@ use sheet::line::Line;
 pub fn is_legal(profile: Profile, line: Line) -> bool
     ensures { result ≡ is_legal profile line }
 {
-    match judge_row(profile, line.zone, line.command) {
-        Judged::Legal(row) => is_sheet_value(row, line.value),
-        Judged::Refused(_) => false,
-    }
+    judge_row(profile, line.zone, line.command).is_ok_and(|row| is_sheet_value(row, line.value))
 }
 
 // Whether a value is one that a sheet may set in a row.
 pub fn is_sheet_value(row: Row, value: u8) -> bool
     ensures { result ≡ is_sheet_value row value }
 {
-    if !row.sheet {
-        return false;
-    }
-    if is_minus_zero(row, value) {
-        return false;
-    }
-    is_setting(row, value)
+    row.sheet && !is_minus_zero(row, value) && is_setting(row, value)
 }
 
 // Whether two lines have the same zone and row; the value is not compared.
 pub(crate) fn is_same_cell(a: Line, b: Line) -> bool
     ensures { result ≡ same_cell a b }
 {
-    if a.zone != b.zone {
-        return false;
-    }
-    a.command == b.command
+    a.zone == b.zone && a.command == b.command
 }

@@ -23,13 +23,12 @@ pub fn no_lines() -> Sheet
 pub fn with_line(sheet: Sheet, line: Line) -> Sheet
     ensures { result ≡ with_line sheet line }
 {
-    let count = sheet.count;
     let mut next = sheet;
-    if SHEET_LIMIT <= count {
+    if SHEET_LIMIT <= sheet.count {
         next.count = SHEET_LIMIT + 1;
-        return next;
+    } else {
+        next.lines[sheet.count] = line;
+        next.count += 1;
     }
-    next.lines[count] = line;
-    next.count = count + 1;
     next
 }

@@ -8,14 +8,16 @@ use lib.ListN.{length}
 use Rattle.row.specs.declared.profile.Profile.{Profile}
 use Rattle.sheet.specs.Check.{first_refusal, sheet_verdict}
 use Rattle.sheetfile.specs.File.{record_size, records, lines_in, lowest_wrong, file_verdict}
-use Rattle.sheet.specs.declared.check.Verdict.TheVariants.{Refused}
 use Rattle.sheetfile.proofs.Records.{records_count}
+use Rattle.std.specs.Prelude.{Err}
+use Rattle.refusals.specs.declared.refusal.Refusal.TheVariants.{WrongFile}
+use Rattle.refusals.specs.Refusal.{fault}
 
 module _ (profile : Profile) (file : List ℕ) (count : ℕ) (low : count * record_size ≤ length file) (high : length file < (count + 1) * record_size) where
   many : length (records file) ≡ count
   many = records_count count file low high
 
-  pub file_broken : (length file ≡ count * record_size → ⊥) → file_verdict profile file ≡ Refused 10 count
+  pub file_broken : (length file ≡ count * record_size → ⊥) → file_verdict profile file ≡ Err (fault WrongFile count)
   unfolding file_verdict
   file_broken h =
       rw (ne_eqb (length file) (record_size * length (records file)) (λ e. h (omega (arith, many))), many)

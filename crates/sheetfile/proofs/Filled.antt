@@ -1,17 +1,16 @@
--- A tail that is filled from its head: what stands in it, and the rest as it was.
-use mathlib.Core.Path.{◌≡◌, refl, ap, sym, ◌∙◌}
+-- A slice that is filled from its head: what stands in it, and the rest as it was.
+use mathlib.Core.Path.{◌≡◌, refl, ap, ◌∙◌}
 use mathlib.Core.Bool.{Bool, true, false}
 use mathlib.Core.List.{List, [], ◌∷◌, ◌++◌, append_assoc, append-nil}
-use Prim.Native.Nat.{ℕ, zero, suc, ◌+◌, ◌-◌, ◌*◌, ◌≤◌, ◌<◌}
+use Prim.Native.Nat.{ℕ, ◌+◌, ◌*◌, ◌≤◌, ◌<◌}
 use native.Mathlib.Numerals.{add-one}
 use native.Mathlib.Omega.{arith}
 use borrow.Author.Tests.{ne_eqb}
 use lib.Dec.{eqb}
-use lib.ListN.{length, take, drop, get_or, set, replicate, length-append, length-replicate}
-use lib.Seq.{take-suc, take_at, drop_at, drop-cons, drop-drop, set_at}
+use lib.ListN.{length, take, drop, get_or, replicate, length-append, length-replicate}
+use lib.Seq.{take-suc, take_at, drop_at, drop-drop}
 use Rattle.frame.specs.Frame.{frame_of}
 use Rattle.lent.specs.Placed.{placed}
-use Rattle.lent.proofs.Tail.{tail_placed}
 use Rattle.row.specs.declared.profile.Profile.{Profile}
 use Rattle.sheet.specs.Sheet.{no_line}
 use Rattle.lists.specs.InOrder.{in_order}
@@ -28,25 +27,6 @@ pub filled_more : (tail before head bytes : List ℕ) (n : ℕ) → length head 
     → placed tail n bytes ≡ (head ++ bytes) ++ drop (n + length bytes) before
 filled_more tail before head bytes n long e =
     rw (e, take_at head (drop n before) n long, ← drop-drop (length bytes) n (head ++ drop n before), drop_at head (drop n before) n long, drop-drop (length bytes) n before, append_assoc head bytes (drop (n + length bytes) before))
-
--- the same, for bytes that were written into the tail's own tail
-pub filled_tail : (tail before head bytes back : List ℕ) (n k : ℕ) → length head ≡ n → tail ≡ head ++ drop n before → length bytes ≡ k
-    → back ≡ bytes ++ drop k (take (length tail - n) (drop n tail))
-    → take n tail ++ (back ++ drop (length tail - n) (drop n tail)) ≡ (head ++ bytes) ++ drop (n + k) before
-filled_tail tail before head bytes back n k long e count f =
-    tail_placed tail n bytes back k count f ∙ filled_more tail before head bytes n long e ∙ rw count
-
--- zeros
-replicate_more : (n x : ℕ) → replicate (suc n) x ≡ replicate n x ++ x ∷ []
-replicate_more zero x = refl
-replicate_more (suc n) x = ap (λ (xs : List ℕ). x ∷ xs) (replicate_more n x)
-
-pub zeros_more : (tail before : List ℕ) (i : ℕ) → i < length before → tail ≡ replicate i 0 ++ drop i before
-    → set tail i 0 ≡ replicate (i + 1) 0 ++ drop (i + 1) before
-zeros_more tail before i h e =
-    ap (λ (xs : List ℕ). set xs i 0) (e ∙ ap (λ (xs : List ℕ). replicate i 0 ++ xs) (drop-cons before i 0 h))
-    ∙ set_at (replicate i 0) (get_or before i 0) (drop (suc i) before) 0 i (length-replicate i 0)
-    ∙ sym (ap (λ (k : ℕ). replicate k 0 ++ drop k before) (add-one i) ∙ ap (λ (xs : List ℕ). xs ++ drop (suc i) before) (replicate_more i 0) ∙ append_assoc (replicate i 0) (0 ∷ []) (drop (suc i) before))
 
 -- lines
 pub in_order_more : (bytes : Line → List ℕ) (lines : List Line) (i : ℕ) → i < length lines

@@ -3,41 +3,39 @@ use mathlib.Core.Path.{◌≡◌, refl, ap, sym, ◌∙◌}
 use mathlib.Core.List.{List}
 use Prim.Native.Nat.{ℕ}
 use borrow.Author.Tests.{ne_eqb}
+use Rattle.std.specs.Prelude.{Err, Ok, Result}
+use Rattle.refusals.specs.declared.refusal.Refusal.{Refusal}
+use Rattle.refusals.specs.declared.refusal.Fault.{Fault}
 use Rattle.row.specs.Profile.{profile_of}
 use Rattle.row.specs.declared.profile.Profile.{Profile}
-use Rattle.row.specs.declared.profile.NamedProfile.{NamedProfile}
-use Rattle.row.specs.declared.profile.NamedProfile.TheVariants as named
 use Rattle.sheet.specs.Sheet.{no_lines, with_all, lines_of}
 use Rattle.sheet.specs.Check.{sheet_verdict}
-use Rattle.sheetfile.specs.File.{records, lines_in, file_of, file_verdict, read_by, file_read, file_read_by}
-use Rattle.sheetfile.specs.Written.{sheet_answered, sheet_left, file_answered, file_left, run_answered, run_left}
-use Rattle.sheetfile.specs.Computed.{sheet_bytes, file_as}
-use Rattle.sheetfile.specs.declared.write.Form.{Form}
-use Rattle.sheetfile.specs.declared.write.Form.TheVariants as form
-use Rattle.sheetfile.specs.ByLetter.{file_verdict_by, copy_answered, copy_left, file_run_answered, file_run_left}
-use Rattle.sheetfile.specs.FileByLetterPromise.{FileByLetterPromise, FileOtherLetter}
 use Rattle.sheet.specs.declared.line.Line.{Line}
 use Rattle.sheet.specs.declared.sheet.Sheet.{Sheet}
-use Rattle.sheet.specs.declared.check.Verdict.{Verdict}
-use Rattle.sheet.specs.declared.check.Verdict.TheVariants as verdict
-use Rattle.sheetfile.proofs.Trips.{verdict_of, accepted_marked, trip_back, trip_lines, trip_verdict}
-use Rattle.sheetfile.proofs.Together.{file_answer, file_after, run_answer, run_after}
+use Rattle.sheetfile.specs.File.{records, lines_in, file_of, file_verdict, file_read, verdict_of, file_read_by}
+use Rattle.sheetfile.specs.Written.{sheet_answered, sheet_left}
+use Rattle.sheetfile.specs.Computed.{sheet_bytes, file_as}
+use Rattle.sheetfile.specs.ByLetter.{file_verdict_by}
+use Rattle.sheetfile.specs.FileByLetterPromise.{FileByLetterPromise, FileOtherLetter}
+use Rattle.sheetfile.specs.declared.write.Form.{Form}
+use Rattle.sheetfile.specs.declared.write.Form.TheVariants as form
+use Rattle.sheetfile.proofs.Trips.{read_verdict, read_accepted, read_kept, accepted_marked, trip_back, trip_lines, trip_verdict}
 
-pub verdict_by : (family : NamedProfile) (file : List ℕ) → (file_read_by family file).verdict ≡ file_verdict_by family file
-verdict_by (named.Profile profile) file = verdict_of profile (file_verdict profile file) (lines_in (records file))
-verdict_by (named.Refused n) file = refl
+pub verdict_by : (family : Result Profile Refusal) (file : List ℕ) → verdict_of (file_read_by family file) ≡ file_verdict_by family file
+verdict_by (Ok profile) file = read_verdict profile (file_verdict profile file) (lines_in (records file))
+verdict_by (Err e) file = refl
 
 module _ (profile : Profile) (file : List ℕ) where
   abbrev lines : List Line
   lines = lines_in (records file)
 
-  -- what the file's reading says, its verdict says
-  pub said : (v : Verdict) → (file_read profile file).verdict ≡ v → file_verdict profile file ≡ v
-  said v e = sym (verdict_of profile (file_verdict profile file) lines) ∙ e
+  -- a refused reading says the file's verdict
+  pub said : (f : Fault) → file_read profile file ≡ Err f → file_verdict profile file ≡ Err f
+  said f e = sym (read_verdict profile (file_verdict profile file) lines) ∙ ap verdict_of e
 
-  module _ (e : (file_read profile file).verdict ≡ verdict.Accepted) where
-    accepted : file_verdict profile file ≡ verdict.Accepted
-    accepted = said verdict.Accepted e
+  module _ (s : Sheet) (e : file_read profile file ≡ Ok s) where
+    accepted : file_verdict profile file ≡ Ok tt
+    accepted = (read_accepted profile file s e).0
 
     pub both : sheet_verdict profile lines ≡ file_verdict profile file
     both = (accepted_marked profile file accepted).2 ∙ sym accepted
@@ -45,49 +43,34 @@ module _ (profile : Profile) (file : List ℕ) where
     pub same : file_of profile lines ≡ file
     same = let w = accepted_marked profile file accepted in trip_back profile file w.0 w.1
 
-    pub sheet_read : (file_read profile file).sheet ≡ with_all no_lines lines
-    sheet_read = ap (λ (v : Verdict). (read_by v lines).sheet) accepted
+    pub sheet_read : s ≡ with_all no_lines lines
+    sheet_read = (read_accepted profile file s e).1
 
 module _ (profile : Profile) (file : List ℕ) (buf : List ℕ) (at : ℕ) where
   -- refused: whatever was to be written
-  pub refused_answer : (n i : ℕ) (bytes : List ℕ) → (file_read profile file).verdict ≡ verdict.Refused n i → sheet_answered (file_verdict profile file) buf at bytes ≡ sheet_answered (verdict.Refused n i) buf at bytes
-  refused_answer n i bytes e = ap (λ (v : Verdict). sheet_answered v buf at bytes) (said profile file (verdict.Refused n i) e)
+  pub refused_answer : (f : Fault) (bytes : List ℕ) → file_read profile file ≡ Err f → sheet_answered (file_verdict profile file) buf at bytes ≡ Err f
+  refused_answer f bytes e = rw (said profile file f e)
 
-  pub refused_left : (n i : ℕ) (bytes : List ℕ) → (file_read profile file).verdict ≡ verdict.Refused n i → sheet_left (file_verdict profile file) buf at bytes ≡ buf
-  refused_left n i bytes e = ap (λ (v : Verdict). sheet_left v buf at bytes) (said profile file (verdict.Refused n i) e)
-
-  module _ (e : (file_read profile file).verdict ≡ verdict.Accepted) where
-    copied_answer : file_answered profile (lines_of (file_read profile file).sheet) buf at ≡ copy_answered (named.Profile profile) file buf at
-    copied_answer =
-        ap (λ (s : Sheet). file_answered profile (lines_of s) buf at) (sheet_read profile file e) ∙ file_answer profile (lines profile file) buf at
-        ∙ rw (both profile file e, same profile file e)
-
-    copied_left : file_left profile (lines_of (file_read profile file).sheet) buf at ≡ copy_left (named.Profile profile) file buf at
-    copied_left =
-        ap (λ (s : Sheet). file_left profile (lines_of s) buf at) (sheet_read profile file e) ∙ file_after profile (lines profile file) buf at
-        ∙ rw (both profile file e, same profile file e)
-
-    ran_answer : run_answered profile (lines_of (file_read profile file).sheet) buf at ≡ file_run_answered (named.Profile profile) file buf at
-    ran_answer = ap (λ (s : Sheet). run_answered profile (lines_of s) buf at) (sheet_read profile file e) ∙ run_answer profile (lines profile file) buf at ∙ rw (both profile file e)
-
-    ran_left : run_left profile (lines_of (file_read profile file).sheet) buf at ≡ file_run_left (named.Profile profile) file buf at
-    ran_left = ap (λ (s : Sheet). run_left profile (lines_of s) buf at) (sheet_read profile file e) ∙ run_after profile (lines profile file) buf at ∙ rw (both profile file e)
+  pub refused_left : (f : Fault) (bytes : List ℕ) → file_read profile file ≡ Err f → sheet_left (file_verdict profile file) buf at bytes ≡ buf
+  refused_left f bytes e = rw (said profile file f e)
 
   -- accepted: the sheet that was read is written as the file is
-  pub as_answer : (f : Form) → (file_read profile file).verdict ≡ verdict.Accepted
-      → sheet_answered (sheet_verdict profile (lines_of (file_read profile file).sheet)) buf at (sheet_bytes f profile (lines_of (file_read profile file).sheet))
-      ≡ sheet_answered (file_verdict profile file) buf at (file_as f file)
-  as_answer form.File e = copied_answer e
-  as_answer form.Run e = ran_answer e
+  module _ (f : Form) (s : Sheet) (e : file_read profile file ≡ Ok s) where
+    bytes_as : (g : Form) → sheet_bytes g profile (lines_of s) ≡ file_as g file
+    bytes_as form.File = rw (read_kept profile file s e, same profile file s e)
+    bytes_as form.Run = rw (read_kept profile file s e)
 
-  pub as_left : (f : Form) → (file_read profile file).verdict ≡ verdict.Accepted
-      → sheet_left (sheet_verdict profile (lines_of (file_read profile file).sheet)) buf at (sheet_bytes f profile (lines_of (file_read profile file).sheet))
-      ≡ sheet_left (file_verdict profile file) buf at (file_as f file)
-  as_left form.File e = copied_left e
-  as_left form.Run e = ran_left e
+    verdict_as : sheet_verdict profile (lines_of s) ≡ file_verdict profile file
+    verdict_as = rw (read_kept profile file s e) (both profile file s e)
+
+    pub as_answer : sheet_answered (sheet_verdict profile (lines_of s)) buf at (sheet_bytes f profile (lines_of s)) ≡ sheet_answered (file_verdict profile file) buf at (file_as f file)
+    as_answer = rw (verdict_as, bytes_as f)
+
+    pub as_left : sheet_left (sheet_verdict profile (lines_of s)) buf at (sheet_bytes f profile (lines_of s)) ≡ sheet_left (file_verdict profile file) buf at (file_as f file)
+    as_left = rw (verdict_as, bytes_as f)
 
 -- the file of some lines
-pub plain_promise : (letter : ℕ) (profile : Profile) (n : profile_of letter ≡ named.Profile profile) (ls : List Line) (buf : List ℕ) (at : ℕ) → FileByLetterPromise letter profile n ls buf at
+pub plain_promise : (letter : ℕ) (profile : Profile) (n : profile_of letter ≡ Ok profile) (ls : List Line) (buf : List ℕ) (at : ℕ) → FileByLetterPromise letter profile n ls buf at
 plain_promise letter profile n ls buf at = record {
   check = rw n (trip_verdict profile ls);
   copy = rw (n, trip_verdict profile ls) (refl, refl);

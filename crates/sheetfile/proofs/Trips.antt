@@ -15,27 +15,30 @@ use Rattle.row.specs.declared.profile.Profile.TheVariants.{A, S}
 use Rattle.sheet.specs.Sheet.{no_lines, with_all, lines_of}
 use Rattle.lists.specs.InOrder.{in_order}
 use Rattle.sheet.specs.Check.{first_refusal, lowest_fault, sheet_verdict}
-use Rattle.sheetfile.specs.File.{Record, record_size, records, lines_in, is_whole, is_marked, lowest_wrong, file_of, file_verdict, read_by, file_read, file_read_by}
+use Rattle.sheetfile.specs.File.{Record, record_size, records, lines_in, is_whole, is_marked, lowest_wrong, file_of, file_verdict, read_by, file_read, verdict_of, file_read_by}
 use Rattle.sheet.specs.SheetPromise.{Says}
 use Rattle.sheetfile.specs.FilePromise.{LowestWrong, AllMarked, FilePromise, FileTrip, FileLetter}
 use Rattle.sheet.specs.declared.line.Line.{Line}
-use Rattle.sheet.specs.declared.check.Verdict.{Verdict}
-use Rattle.sheet.specs.declared.check.Verdict.TheVariants.{Accepted, Refused}
-use Rattle.sheet.proofs.Sheets.{only, all_kept, says, never}
+use Rattle.sheet.specs.declared.sheet.Sheet.{Sheet}
+use Rattle.sheet.proofs.Sheets.{only, all_kept, says}
 use Rattle.sheetfile.proofs.Files.{file_broken, file_whole}
+use Rattle.std.specs.Prelude.{Err, Ok, Result}
+use Rattle.refusals.specs.declared.refusal.Refusal.TheVariants.{WrongFile, WrongLetter}
+use Rattle.refusals.specs.declared.refusal.Fault.{Fault}
+use Rattle.refusals.specs.Refusal.{fault}
 
 -- the first record with a wrong mark or profile
 module _ (profile : Profile) where
-  marked_all : (i : ℕ) (rs : List Record) → AllMarked profile rs → lowest_wrong profile i rs ≡ Accepted
+  marked_all : (i : ℕ) (rs : List Record) → AllMarked profile rs → lowest_wrong profile i rs ≡ Ok tt
   unfolding lowest_wrong
   marked_all i [] w = refl
   marked_all i (r ∷ rs) w = rw w.0 (marked_all (i + 1) rs w.1)
 
-  wrong_at : (k : ℕ) (rs : List Record) (i : ℕ) → LowestWrong profile rs i → lowest_wrong profile k rs ≡ Refused 10 (k + i)
+  wrong_at : (k : ℕ) (rs : List Record) (i : ℕ) → LowestWrong profile rs i → lowest_wrong profile k rs ≡ Err (fault WrongFile (k + i))
   unfolding lowest_wrong
   wrong_at k [] i w = absurd w
-  wrong_at k (r ∷ rs) zero w = rw w (ap (λ (n : ℕ). Refused 10 n) (sym (add-zero k)))
-  wrong_at k (r ∷ rs) (suc i) w = rw w.0 (wrong_at (k + 1) rs i w.1 ∙ ap (λ (n : ℕ). Refused 10 n) (omega arith))
+  wrong_at k (r ∷ rs) zero w = rw w (ap (λ (n : ℕ). Err (fault WrongFile n)) (sym (add-zero k)))
+  wrong_at k (r ∷ rs) (suc i) w = rw w.0 (wrong_at (k + 1) rs i w.1 ∙ ap (λ (n : ℕ). Err (fault WrongFile n)) (omega arith))
 
   wrong_either : (rs : List Record) → ((i : ℕ) × LowestWrong profile rs i) ⊎ AllMarked profile rs
   wrong_either [] = inr tt
@@ -52,12 +55,12 @@ module _ (profile : Profile) where
     in_order_lem = file_whole profile file q (omega arith) (omega arith) whole
 
     pub checks_of : AllMarked profile (records file) → file_verdict profile file ≡ sheet_verdict profile (lines_in (records file))
-    checks_of w = in_order_lem ∙ ap (λ (v : Verdict). first_refusal v (sheet_verdict profile (lines_in (records file)))) (marked_all 0 (records file) w)
+    checks_of w = in_order_lem ∙ ap (λ (v : Result (Unit {0}) Fault). first_refusal v (sheet_verdict profile (lines_in (records file)))) (marked_all 0 (records file) w)
 
-    wrong_of : (i : ℕ) → LowestWrong profile (records file) i → file_verdict profile file ≡ Refused 10 i
+    wrong_of : (i : ℕ) → LowestWrong profile (records file) i → file_verdict profile file ≡ Err (fault WrongFile i)
     wrong_of i w =
-        in_order_lem ∙ ap (λ (v : Verdict). first_refusal v (sheet_verdict profile (lines_in (records file)))) (wrong_at 0 (records file) i w)
-        ∙ ap (λ (n : ℕ). Refused 10 n) (zero-add i)
+        in_order_lem ∙ ap (λ (v : Result (Unit {0}) Fault). first_refusal v (sheet_verdict profile (lines_in (records file)))) (wrong_at 0 (records file) i w)
+        ∙ ap (λ (n : ℕ). Err (fault WrongFile n)) (zero-add i)
 
   -- the file of some lines: their records, each marked
   pub trip_lines : (ls : List Line) → lines_in (records (file_of profile ls)) ≡ ls
@@ -78,10 +81,8 @@ module _ (profile : Profile) where
   pub trip_verdict : (ls : List Line) → file_verdict profile (file_of profile ls) ≡ sheet_verdict profile ls
   trip_verdict ls = checks_of (file_of profile ls) (length ls) (trip_long ls) (trip_marked ls) ∙ ap (sheet_verdict profile) (trip_lines ls)
 
-  pub trip_read : (ls : List Line) → sheet_verdict profile ls ≡ Accepted
-      → ((file_read profile (file_of profile ls)).verdict ≡ Accepted) × (lines_of (file_read profile (file_of profile ls)).sheet ≡ ls)
-  trip_read ls e =
-      rw (trip_verdict ls, e, trip_lines ls) (refl, all_kept ls (only profile ls e).0)
+  pub trip_read : (ls : List Line) → sheet_verdict profile ls ≡ Ok tt → (s : Sheet) × (file_read profile (file_of profile ls) ≡ Ok s) × (lines_of s ≡ ls)
+  trip_read ls e = (with_all no_lines ls, rw (trip_verdict ls, e, trip_lines ls), all_kept ls (only profile ls e).0)
 
   -- bytes that are whole, marked records: the file of their lines is these bytes
   same_record : (a b c : ℕ) → eqb a 0x53 && (eqb b 0x4C && eqb c (letter_of profile)) ≡ true → (a ≡ 0x53) × (b ≡ 0x4C) × (c ≡ letter_of profile)
@@ -89,9 +90,9 @@ module _ (profile : Profile) where
     where
       go : (s t u : Bool) → eqb a 0x53 ≡ s → eqb b 0x4C ≡ t → eqb c (letter_of profile) ≡ u → s && (t && u) ≡ true → (a ≡ 0x53) × (b ≡ 0x4C) × (c ≡ letter_of profile)
       go true true true f g h w = (eqb-true _ _ f, eqb-true _ _ g, eqb-true _ _ h)
-      go true true false f g h w = let z : ◌≡◌ {A = ℕ} 0 1 = cc in absurd (omega arith)
-      go true false u f g h w = let z : ◌≡◌ {A = ℕ} 0 1 = cc in absurd (omega arith)
-      go false t u f g h w = let z : ◌≡◌ {A = ℕ} 0 1 = cc in absurd (omega arith)
+      go true true false f g h w = absurd (cc)
+      go true false u f g h w = absurd (cc)
+      go false t u f g h w = absurd (cc)
 
   pub trip_back : (file : List ℕ) → length file ≡ length (records file) * record_size → AllMarked profile (records file) → file_of profile (lines_in (records file)) ≡ file
   unfolding records lines_in in_order
@@ -107,42 +108,51 @@ module _ (profile : Profile) where
       rw (s.0, s.1, s.2, r)
 
   -- an accepted file is whole, marked records of an accepted sheet
-  pub accepted_marked : (file : List ℕ) → file_verdict profile file ≡ Accepted
-      → (length file ≡ length (records file) * record_size) × AllMarked profile (records file) × (sheet_verdict profile (lines_in (records file)) ≡ Accepted)
+  pub accepted_marked : (file : List ℕ) → file_verdict profile file ≡ Ok tt
+      → (length file ≡ length (records file) * record_size) × AllMarked profile (records file) × (sheet_verdict profile (lines_in (records file)) ≡ Ok tt)
   unfolding file_verdict
   accepted_marked file e = go (is_whole file) refl (wrong_either (records file))
     where
       go : (t : Bool) → is_whole file ≡ t → ((i : ℕ) × LowestWrong profile (records file) i) ⊎ AllMarked profile (records file)
-          → (length file ≡ length (records file) * record_size) × AllMarked profile (records file) × (sheet_verdict profile (lines_in (records file)) ≡ Accepted)
-      go false f w = absurd (never profile 10 (length (records file)) (sym e ∙ rw f))
+          → (length file ≡ length (records file) * record_size) × AllMarked profile (records file) × (sheet_verdict profile (lines_in (records file)) ≡ Ok tt)
+      go false f w = let broken : file_verdict profile file ≡ Err (fault WrongFile (length (records file))) = rw f in absurd (cc)
       go true f (inl w) =
           let long : length file ≡ length (records file) * record_size = omega (arith, eqb-true (length file) (record_size * length (records file)) f) in
-          absurd (never profile 10 w.0 (sym e ∙ wrong_of file (length (records file)) long w.0 w.1))
+          absurd (cc (e, wrong_of file (length (records file)) long w.0 w.1))
       go true f (inr w) =
           let long : length file ≡ length (records file) * record_size = omega (arith, eqb-true (length file) (record_size * length (records file)) f) in
           (long, w, sym (checks_of file (length (records file)) long w) ∙ e)
 
-  pub verdict_of : (v : Verdict) (ls : List Line) → (read_by v ls).verdict ≡ v
-  verdict_of Accepted ls = refl
-  verdict_of (Refused n i) ls = refl
+  pub read_verdict : (v : Result (Unit {0}) Fault) (ls : List Line) → verdict_of (read_by v ls) ≡ v
+  read_verdict (Ok u) ls = refl
+  read_verdict (Err f) ls = refl
 
-  read_accepted : (file : List ℕ) → (file_read profile file).verdict ≡ Accepted → file_verdict profile file ≡ Accepted
-  read_accepted file e = sym (verdict_of (file_verdict profile file) (lines_in (records file))) ∙ e
+  read_lines : (v : Result (Unit {0}) Fault) (ls : List Line) (s : Sheet) → read_by v ls ≡ Ok s → (v ≡ Ok tt) × (s ≡ with_all no_lines ls)
+  read_lines (Ok u) ls s e = (refl, cc)
+  read_lines (Err f) ls s e = absurd (cc)
 
-  trip_again : (file : List ℕ) → (file_read profile file).verdict ≡ Accepted → file_of profile (lines_of (file_read profile file).sheet) ≡ file
-  trip_again file e =
-      let f = read_accepted file e in
-      let w = accepted_marked file f in
-      rw f (ap (file_of profile) (all_kept (lines_in (records file)) (only profile (lines_in (records file)) w.2).0) ∙ trip_back file w.0 w.1)
+  -- a file that is read was accepted, and the sheet holds its lines
+  pub read_accepted : (file : List ℕ) (s : Sheet) → file_read profile file ≡ Ok s → (file_verdict profile file ≡ Ok tt) × (s ≡ with_all no_lines (lines_in (records file)))
+  read_accepted file s e = read_lines (file_verdict profile file) (lines_in (records file)) s e
+
+  pub read_kept : (file : List ℕ) (s : Sheet) → file_read profile file ≡ Ok s → lines_of s ≡ lines_in (records file)
+  read_kept file s e =
+      let r = read_accepted file s e in
+      rw r.1 (all_kept (lines_in (records file)) (only profile (lines_in (records file)) (accepted_marked file r.0).2).0)
+
+  trip_again : (file : List ℕ) (s : Sheet) → file_read profile file ≡ Ok s → file_of profile (lines_of s) ≡ file
+  trip_again file s e =
+      let w = accepted_marked file (read_accepted file s e).0 in
+      rw (read_kept file s e) (trip_back file w.0 w.1)
 
 pub file_promise : (profile : Profile) (file : List ℕ) → FilePromise profile file
 file_promise profile file = record {
-  uneven = λ q r e some less. says (file_verdict profile file) 10 q (file_broken profile file q (omega arith) (omega arith) (λ f. omega arith));
-  wrong = λ q e i w. says (file_verdict profile file) 10 i (wrong_of profile file q e i w);
+  uneven = λ q r e some less. says (file_verdict profile file) WrongFile q (file_broken profile file q (omega arith) (omega arith) (λ f. omega arith));
+  wrong = λ q e i w. says (file_verdict profile file) WrongFile i (wrong_of profile file q e i w);
   checks = λ q e w. checks_of profile file q e w;
   either = wrong_either profile (records file);
-  said = verdict_of profile (file_verdict profile file) (lines_in (records file));
-  none = λ n i e. ap (λ (v : Verdict). (read_by v (lines_in (records file))).sheet) e;
+  said = read_verdict profile (file_verdict profile file) (lines_in (records file));
+  none = λ f e. ap (λ (v : Result (Unit {0}) Fault). read_by v (lines_in (records file))) e;
   again = trip_again profile file;
 }
 
@@ -159,5 +169,5 @@ file_letter letter file = record { named = named_by; twelve = twelve_by }
     named_by S e = rw e
 
     twelve_by : (letter ≡ 0x41 → ⊥) → (letter ≡ 0x53 → ⊥)
-        → Says (file_read_by (profile_of letter) file).verdict 12 0 × ((file_read_by (profile_of letter) file).sheet ≡ no_lines)
+        → Says (verdict_of (file_read_by (profile_of letter) file)) 12 0 × (file_read_by (profile_of letter) file ≡ Err (fault WrongLetter 0))
     twelve_by a s = rw (ne_eqb letter 0x41 a, ne_eqb letter 0x53 s) ((refl, refl), refl)

@@ -14,8 +14,10 @@ use Rattle.sheet.specs.Check.{lowest_fault, sheet_verdict}
 use Rattle.sheetfile.specs.File.{records, lines_in, lowest_wrong, file_of, file_verdict}
 use Rattle.sheetfile.specs.Run.{run_of}
 use Rattle.sheet.specs.declared.line.Line.{Line}
-use Rattle.sheet.specs.declared.check.Verdict.{Verdict}
-use Rattle.sheet.specs.declared.check.Verdict.TheVariants.{Accepted, Refused}
+use Rattle.std.specs.Prelude.{Err, Ok, Result}
+use Rattle.refusals.specs.declared.refusal.Refusal.TheVariants.{IllegalLine, RepeatedLine, TooManyLines, WrongFile}
+use Rattle.refusals.specs.declared.refusal.Fault.{Fault}
+use Rattle.refusals.specs.Refusal.{fault}
 
 abbrev pub line : ℕ → ℕ → ℕ → Line
 line zone command value = record { zone = zone; command = command; value = value }
@@ -39,44 +41,44 @@ eight =
     ∷ line 1 0x5C 0x63 ∷ line 2 0x5C 0x00
     ∷ []
 
-pub fifteen_accepted : sheet_verdict A fifteen ≡ Accepted
+pub fifteen_accepted : sheet_verdict A fifteen ≡ Ok tt
 unfolding sheet_verdict lowest_fault is_legal is_repeated row_judged first_row table
 fifteen_accepted = refl
 
-pub eight_accepted : sheet_verdict S eight ≡ Accepted
+pub eight_accepted : sheet_verdict S eight ≡ Ok tt
 unfolding sheet_verdict lowest_fault is_legal is_repeated row_judged first_row table
 eight_accepted = refl
 
-pub none_accepted : sheet_verdict A [] ≡ Accepted
+pub none_accepted : sheet_verdict A [] ≡ Ok tt
 unfolding sheet_verdict lowest_fault
 none_accepted = refl
 
 -- what the first 16 to 24 of some lines are: within the limit, and more than a family has zones and sheet rows for
-abbrev longer : Profile → List Line → List Verdict
+abbrev longer : Profile → List Line → List (Result (Unit {0}) Fault)
 longer profile ls =
     map (λ (n : ℕ). sheet_verdict profile (take n ls)) (16 ∷ 17 ∷ 18 ∷ 19 ∷ 20 ∷ 21 ∷ 22 ∷ 23 ∷ 24 ∷ [])
 
 -- behind a full sheet its lines again are 8, and lines that are not legal 7, at the first line too many
-pub repeats_refused : (longer A (fifteen ++ fifteen) ≡ replicate 9 (Refused 8 15)) × (longer S (eight ++ eight ++ eight) ≡ replicate 9 (Refused 8 8))
+pub repeats_refused : (longer A (fifteen ++ fifteen) ≡ replicate 9 (Err (fault RepeatedLine 15))) × (longer S (eight ++ eight ++ eight) ≡ replicate 9 (Err (fault RepeatedLine 8)))
 unfolding sheet_verdict lowest_fault is_legal is_repeated row_judged first_row table
 repeats_refused = (refl, refl)
 
-pub illegal_refused : (longer A (fifteen ++ replicate 9 (line 4 0x38 0x02)) ≡ replicate 9 (Refused 7 15))
-    × (longer S (eight ++ replicate 16 (line 3 0x0D 0x0D)) ≡ replicate 9 (Refused 7 8))
+pub illegal_refused : (longer A (fifteen ++ replicate 9 (line 4 0x38 0x02)) ≡ replicate 9 (Err (fault IllegalLine 15)))
+    × (longer S (eight ++ replicate 16 (line 3 0x0D 0x0D)) ≡ replicate 9 (Err (fault IllegalLine 8)))
 unfolding sheet_verdict lowest_fault is_legal is_repeated row_judged first_row table
 illegal_refused = (refl, refl)
 
 -- the lowest fault; 7 before 8 on one line
-pub lowest_refused : sheet_verdict A (line 1 0x38 0x02 ∷ line 1 0x38 0x01 ∷ line 1 0x37 0x00 ∷ []) ≡ Refused 8 1
+pub lowest_refused : sheet_verdict A (line 1 0x38 0x02 ∷ line 1 0x38 0x01 ∷ line 1 0x37 0x00 ∷ []) ≡ Err (fault RepeatedLine 1)
 unfolding sheet_verdict lowest_fault is_legal is_repeated row_judged first_row table
 lowest_refused = refl
 
-pub seven_refused : sheet_verdict S (line 1 0x0E 0x01 ∷ line 1 0x0E 0x02 ∷ []) ≡ Refused 7 1
+pub seven_refused : sheet_verdict S (line 1 0x0E 0x01 ∷ line 1 0x0E 0x02 ∷ []) ≡ Err (fault IllegalLine 1)
 unfolding sheet_verdict lowest_fault is_legal is_repeated row_judged first_row table
 seven_refused = refl
 
 -- values that a sheet may not hold, and Leveller off, which it may: one line each, with what its check says
-abbrev judged : List Verdict
+abbrev judged : List (Result (Unit {0}) Fault)
 judged =
     sheet_verdict S (line 1 0x0E 0x02 ∷ [])
     ∷ sheet_verdict S (line 1 0x0E 0xF0 ∷ [])
@@ -86,18 +88,18 @@ judged =
     ∷ sheet_verdict A (line 1 0x39 0xFF ∷ [])
     ∷ []
 
-pub values_judged : judged ≡ Refused 7 0 ∷ Refused 7 0 ∷ Refused 7 0 ∷ Refused 7 0 ∷ Refused 7 0 ∷ Accepted ∷ []
+pub values_judged : judged ≡ Err (fault IllegalLine 0) ∷ Err (fault IllegalLine 0) ∷ Err (fault IllegalLine 0) ∷ Err (fault IllegalLine 0) ∷ Err (fault IllegalLine 0) ∷ Ok tt ∷ []
 unfolding sheet_verdict lowest_fault is_legal is_repeated row_judged first_row table
 values_judged = refl
 
 -- document 02, C-14: "sheets refuse 80 with 7 as before", in each of the three sheet rows that take it in commands; "A 45 runs to A8 ..
 -- on sheets too"
-pub minus_zeros_judged : map (λ (command : ℕ). sheet_verdict A (line 1 command 0x80 ∷ [])) (0x3A ∷ 0x45 ∷ 0x46 ∷ []) ≡ replicate 3 (Refused 7 0)
+pub minus_zeros_judged : map (λ (command : ℕ). sheet_verdict A (line 1 command 0x80 ∷ [])) (0x3A ∷ 0x45 ∷ 0x46 ∷ []) ≡ replicate 3 (Err (fault IllegalLine 0))
 unfolding sheet_verdict lowest_fault is_legal is_repeated row_judged first_row table
 minus_zeros_judged = refl
 
 pub trims_judged : map (λ (v : ℕ). sheet_verdict A (line 1 0x45 v ∷ [])) (0x00 ∷ 0x81 ∷ 0x8B ∷ 0xA8 ∷ 0xA9 ∷ 0x01 ∷ [])
-    ≡ Accepted ∷ Accepted ∷ Accepted ∷ Accepted ∷ Refused 7 0 ∷ Refused 7 0 ∷ []
+    ≡ Ok tt ∷ Ok tt ∷ Ok tt ∷ Ok tt ∷ Err (fault IllegalLine 0) ∷ Err (fault IllegalLine 0) ∷ []
 unfolding sheet_verdict lowest_fault is_legal is_repeated row_judged first_row table
 trims_judged = refl
 
@@ -114,7 +116,7 @@ pub zeros_computed : take 255 (run_of (line 2 0x3A 0x85 ∷ [])) ≡ replicate 2
 unfolding run_of
 zeros_computed = refl
 
-abbrev files_judged : List Verdict
+abbrev files_judged : List (Result (Unit {0}) Fault)
 files_judged =
     file_verdict A []
     ∷ file_verdict A (0x53 ∷ 0x4C ∷ 0x53 ∷ 0x01 ∷ 0x0D ∷ 0x0D ∷ [])
@@ -126,6 +128,6 @@ files_judged =
     ∷ file_verdict A (file_of A fifteen)
     ∷ []
 
-pub files_judged_lem : files_judged ≡ Accepted ∷ Refused 10 0 ∷ Refused 10 1 ∷ Refused 10 0 ∷ Refused 8 1 ∷ Refused 6 24 ∷ Refused 10 25 ∷ Accepted ∷ []
+pub files_judged_lem : files_judged ≡ Ok tt ∷ Err (fault WrongFile 0) ∷ Err (fault WrongFile 1) ∷ Err (fault WrongFile 0) ∷ Err (fault RepeatedLine 1) ∷ Err (fault TooManyLines 24) ∷ Err (fault WrongFile 25) ∷ Ok tt ∷ []
 unfolding file_verdict lowest_wrong records lines_in in_order sheet_verdict lowest_fault is_legal is_repeated row_judged first_row table
 files_judged_lem = refl

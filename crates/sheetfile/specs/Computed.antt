@@ -1,5 +1,5 @@
 -- What the private functions of `sheetfile_code` compute. Nothing here need be believed: proofs/ ties each form to the definitions.
-use Rattle.std.specs.Prelude.{ℕ, ◌+◌, cond, List, eqb, get_or}
+use Rattle.std.specs.Prelude.{ℕ, cond, List, map, eqb, get_or}
 use Rattle.row.specs.declared.profile.Profile.{Profile}
 use Rattle.sheetfile.specs.File.{Record, record_of, records, file_of, lines_in}
 use Rattle.sheetfile.specs.Run.{flush, line_frame, run_of}
@@ -7,16 +7,19 @@ use Rattle.sheet.specs.declared.line.Line.{Line}
 use Rattle.sheetfile.specs.declared.write.Form.{Form}
 use Rattle.sheetfile.specs.declared.write.Form.TheVariants as form
 
--- the six bytes from a place of a file
-abbrev pub record_at : List ℕ → ℕ → Record
-record_at file at = record {
-  first = get_or file at 0;
-  second = get_or file (at + 1) 0;
-  family = get_or file (at + 2) 0;
-  zone = get_or file (at + 3) 0;
-  command = get_or file (at + 4) 0;
-  value = get_or file (at + 5) 0;
+-- the record that six bytes are, and the records that some pieces of six bytes are
+abbrev pub record_in : List ℕ → Record
+record_in bytes = record {
+  first = get_or bytes 0 0;
+  second = get_or bytes 1 0;
+  family = get_or bytes 2 0;
+  zone = get_or bytes 3 0;
+  command = get_or bytes 4 0;
+  value = get_or bytes 5 0;
 }
+
+abbrev pub records_in : List (List ℕ) → List Record
+records_in pieces = map record_in pieces
 
 -- a file or a run: the zeros before so many lines, and the bytes of a line
 abbrev pub flush_of : ℕ → ℕ

@@ -1,26 +1,27 @@
 ghost use Rattle.std.specs.Prelude.{◌≡◌};
 ghost use Rattle.row.specs.Profile.{profile_of};
-ghost use Rattle.sheetfile.specs.File.{file_verdict};
 ghost use Rattle.sheetfile.specs.Written.{sheet_answered, sheet_left};
 ghost use Rattle.sheetfile.specs.Computed.{file_as};
 ghost use Rattle.sheetfile.specs.ByLetter.{file_verdict_by, copy_answered, copy_left, file_run_answered, file_run_left};
 
 use crate::file::{read_file, read_file_by_letter};
 use crate::write::put_sheet;
-use row::profile::{NamedProfile, Profile, profile_of};
-use sheet::check::Verdict;
-use sheetfile::write::{Form, SheetWritten};
+use refusals::refusal::Fault;
+use row::profile::Profile;
+use sheetfile::write::Form;
 
 // The check of a sheet that comes as its file: 12 for a letter that names no profile, then the file's refusals.
-pub fn check_file(letter: u8, file: &[u8]) -> Verdict
+#[tactic(auto, using(sheetfile::proofs::Plains::verdict_by))]
+pub fn check_file(letter: u8, file: &[u8]) -> Result<(), Fault>
     ensures { result ≡ file_verdict_by (profile_of letter) file.now }
 {
-    let read = read_file_by_letter(letter, file);
-    read.verdict
+    read_file_by_letter(letter, file)?;
+    Ok(())
 }
 
-// Writes an accepted sheet file into the rest of the buffer from a place: the file's refusals, then 9.
-pub fn copy_file(letter: u8, file: &[u8], buf: &mut [u8], at: usize) -> SheetWritten
+// Writes an accepted sheet file into the rest of the buffer from a place: the file's refusals, then 9. What it shares with
+// `run_of_file` is `write_by`, over the form.
+pub fn copy_file(letter: u8, file: &[u8], buf: &mut [u8], at: usize) -> Result<usize, Fault>
     ensures answers { result ≡ copy_answered (profile_of letter) file.now buf.old at }
     ensures leaves { buf.new ≡ copy_left (profile_of letter) file.now buf.old at }
 {
@@ -28,35 +29,20 @@ pub fn copy_file(letter: u8, file: &[u8], buf: &mut [u8], at: usize) -> SheetWri
 }
 
 // Writes the run of a sheet file into the rest of the buffer from a place: the file's refusals, then 9.
-pub fn run_of_file(letter: u8, file: &[u8], buf: &mut [u8], at: usize) -> SheetWritten
+pub fn run_of_file(letter: u8, file: &[u8], buf: &mut [u8], at: usize) -> Result<usize, Fault>
     ensures answers { result ≡ file_run_answered (profile_of letter) file.now buf.old at }
     ensures leaves { buf.new ≡ file_run_left (profile_of letter) file.now buf.old at }
 {
     write_by(Form::Run, letter, file, buf, at)
 }
 
-// Under the profile that the letter names.
-fn write_by(form: Form, letter: u8, file: &[u8], buf: &mut [u8], at: usize) -> SheetWritten
+// Under the profile that the letter names, the file's refusals first.
+#[tactic(auto, using(sheetfile::proofs::Plains::refused_answer, sheetfile::proofs::Plains::refused_left, sheetfile::proofs::Plains::as_answer, sheetfile::proofs::Plains::as_left))]
+fn write_by(form: Form, letter: u8, file: &[u8], buf: &mut [u8], at: usize) -> Result<usize, Fault>
     ensures answers { result ≡ sheet_answered (file_verdict_by (profile_of letter) file.now) buf.old at (file_as form file.now) }
     ensures leaves { buf.new ≡ sheet_left (file_verdict_by (profile_of letter) file.now) buf.old at (file_as form file.now) }
 {
-    match profile_of(letter) {
-        NamedProfile::Profile(profile) => write_read(form, profile, file, buf, at),
-        NamedProfile::Refused(number) => SheetWritten::Refused(number, 0),
-    }
-}
-
-// The file's refusals first.
-#[tactic(auto, using(sheetfile::proofs::Plains::refused_answer, sheetfile::proofs::Plains::refused_left, sheetfile::proofs::Plains::as_answer, sheetfile::proofs::Plains::as_left))]
-fn write_read(form: Form, profile: Profile, file: &[u8], buf: &mut [u8], at: usize) -> SheetWritten
-    ensures answers { result ≡ sheet_answered (file_verdict profile file.now) buf.old at (file_as form file.now) }
-    ensures leaves { buf.new ≡ sheet_left (file_verdict profile file.now) buf.old at (file_as form file.now) }
-{
-    let read = read_file(profile, file);
-    let verdict = read.verdict;
-    let sheet = read.sheet;
-    match verdict {
-        Verdict::Accepted => put_sheet(form, profile, sheet, buf, at),
-        Verdict::Refused(number, place) => SheetWritten::Refused(number, place),
-    }
+    let profile = Profile::try_from(letter)?;
+    let sheet = read_file(profile, file)?;
+    put_sheet(form, profile, sheet, buf, at)
 }

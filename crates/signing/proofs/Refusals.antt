@@ -8,8 +8,8 @@ use Rattle.signing.proofs.CaptureSigns.{capture_promise}
 
 pub refusal_promise : (t : Tracker) → SignRefusalPromise t
 refusal_promise t = record {
-  sheet = λ ls n i e.
-      let r = (sign_promise t ls).refused n i e in
+  sheet = λ ls f e.
+      let r = (sign_promise t ls).refused f e in
       (ap signed_number r, ap signed_place r, ap signed_yes r);
   long_signed = λ profile ls capture h.
       let r = (capture_promise profile ls capture).long h in

@@ -3,11 +3,8 @@ use mathlib.Core.Path.{◌≡◌, refl, ap, sym, ◌∙◌, subst}
 use mathlib.Core.Bool.{Bool, true, false}
 use mathlib.Core.List.{List, [], ◌∷◌, ◌++◌}
 use mathlib.Core.Logic.{◌⊎◌, inl, inr}
-use Prim.Native.Nat.{ℕ, ◌+◌, ◌≤◌, ◌<◌}
-use native.Mathlib.Omega.{arith}
+use Prim.Native.Nat.{ℕ, ◌≤◌}
 use borrow.Author.Tests.{eq-eqb, eqb-true}
-use lib.ListN.{length, take, drop, get_or, drop_of_length-le}
-use lib.Seq.{length-take-le}
 use Rattle.lists.specs.Each.{Each}
 use Rattle.lists.proofs.Each.{each_map}
 use Rattle.lists.proofs.Tests.{both}
@@ -18,45 +15,26 @@ use Rattle.sheet.specs.Check.{sheet_verdict}
 use Rattle.sheet.specs.SheetPromise.{AllSound}
 use Rattle.sheet.specs.declared.line.Line.{Line}
 use Rattle.sheet.specs.declared.sheet.Sheet.{Sheet}
-use Rattle.sheet.specs.declared.check.Verdict.{Verdict}
-use Rattle.sheet.specs.declared.check.Verdict.TheVariants as verdict
 use Rattle.sheet.proofs.Faults.{first_many}
 use Rattle.sheet.proofs.Sheets.{sheet_promise}
-use Rattle.sheet.proofs.Repeats.{here}
 use Rattle.tracker.specs.CellPromise.{HasCell}
 use Rattle.tracker.specs.Tracker.{fresh_tracker, kept_in}
 use Rattle.tracker.specs.Feed.{BroughtAnswer, answers_fed}
-use Rattle.signing.specs.Sign.{holds_in, holds, all_hold, yes_or_no, signed_by}
+use Rattle.signing.specs.Sign.{holds_in, holds, all_hold, signed_by}
 use Rattle.tracker.specs.HistoryPromise.{IsStatus, Last, HistoryPromise}
 use Rattle.signing.specs.SignPromise.{IsHeld, IsAnswered, SignPromise, SignHistoryPromise}
 use Rattle.tracker.specs.declared.tracker.Tracker.{Tracker}
 use Rattle.tracker.specs.declared.tracker.Kept.{Kept}
 use Rattle.tracker.specs.declared.tracker.Kept.TheVariants as kept
-use Rattle.signing.specs.declared.sign.Signed.TheVariants.{Yes, No}
 use Rattle.tracker.proofs.Cells.{cell_or_none, legal_cell}
 use Rattle.tracker.proofs.Keeps.{none_kept}
 use Rattle.tracker.proofs.History.{all_profile, history_promise}
+use Rattle.std.specs.Prelude.{Err, Ok, Result}
+use Rattle.refusals.specs.declared.refusal.Fault.{Fault}
 
 -- an accepted sheet has no more lines than there is room for
-pub accepted_count : (profile : Profile) (s : Sheet) → sheet_verdict profile (lines_of s) ≡ verdict.Accepted → s.count ≤ sheet_limit
+pub accepted_count : (profile : Profile) (s : Sheet) → sheet_verdict profile (lines_of s) ≡ Ok tt → s.count ≤ sheet_limit
 accepted_count profile s e = rw (first_many s.lines s.count) at ((sheet_promise profile (lines_of s)).only e).0
-
--- along the first lines of an array
-module _ (t : Tracker) (lines : List Line) (count : ℕ) (room : count ≤ length lines) (i : ℕ) (d : Line) where
-  abbrev behind : ℕ → List Line
-  behind j = drop j (take count lines)
-
-  pub stops : i < count → holds t (get_or lines i d) ≡ false → all_hold t (behind i) ≡ false
-  unfolding all_hold
-  stops h e = ap (all_hold t) (here lines count room d i d h) ∙ rw e
-
-  pub goes_on : i < count → holds t (get_or lines i d) ≡ true → all_hold t (behind i) ≡ all_hold t (behind (i + 1))
-  unfolding all_hold
-  goes_on h e = ap (all_hold t) (here lines count room d i d h) ∙ rw e
-
-  pub ends : count ≤ i → all_hold t (behind i) ≡ true
-  unfolding all_hold
-  ends h = ap (all_hold t) (drop_of_length-le (take count lines) {i = i} (rw (length-take-le count lines room) h))
 
 -- a line holds exactly when its cell is known and equal
 holds_if : (t : Tracker) (l : Line) → kept_in t l.zone l.command ≡ kept.Value l.value → holds t l ≡ true
@@ -64,8 +42,8 @@ holds_if t l e = ap (λ (k : Kept). holds_in k l.value) e ∙ eq-eqb l.value l.v
 
 holds_only : (k : Kept) (v : ℕ) → holds_in k v ≡ true → k ≡ kept.Value v
 holds_only (kept.Value b) v e = ap kept.Value (eqb-true b v e)
-holds_only kept.Unknown v e = let z : ◌≡◌ {A = ℕ} 0 1 = cc in absurd (omega arith)
-holds_only kept.NoCell v e = let z : ◌≡◌ {A = ℕ} 0 1 = cc in absurd (omega arith)
+holds_only kept.Unknown v e = cc
+holds_only kept.NoCell v e = cc
 
 all_if : (t : Tracker) (ls : List Line) → Each (IsHeld t) ls → all_hold t ls ≡ true
 unfolding all_hold
@@ -79,23 +57,22 @@ all_only t (l ∷ ls) e =
     let w = both (holds t l) (all_hold t ls) e in
     (holds_only (kept_in t l.zone l.command) l.value w.0, all_only t ls w.1)
 
-yes_only : (v : Verdict) (b : Bool) → signed_by v b ≡ Yes → (v ≡ verdict.Accepted) × (b ≡ true)
-yes_only verdict.Accepted true e = (refl, refl)
-yes_only verdict.Accepted false e = let z : ◌≡◌ {A = ℕ} 0 1 = cc in absurd (omega arith)
-yes_only (verdict.Refused n i) b e = let z : ◌≡◌ {A = ℕ} 0 1 = cc in absurd (omega arith)
+yes_only : (v : Result (Unit {0}) Fault) (b : Bool) → signed_by v b ≡ Ok true → (v ≡ Ok tt) × (b ≡ true)
+yes_only (Ok u) b e = (refl, cc)
+yes_only (Err f) b e = cc
 
-no_when : (t : Tracker) (ls : List Line) → (Each (IsHeld t) ls → ⊥) → yes_or_no (all_hold t ls) ≡ No
+no_when : (t : Tracker) (ls : List Line) → (Each (IsHeld t) ls → ⊥) → all_hold t ls ≡ false
 no_when t ls w = go (all_hold t ls) refl
   where
-    go : (b : Bool) → all_hold t ls ≡ b → yes_or_no b ≡ No
+    go : (b : Bool) → all_hold t ls ≡ b → all_hold t ls ≡ false
     go true e = absurd (w (all_only t ls e))
-    go false e = refl
+    go false e = e
 
 pub sign_promise : (t : Tracker) (ls : List Line) → SignPromise t ls
 sign_promise t ls = record {
-  refused = λ n i e. ap (λ (v : Verdict). signed_by v (all_hold t ls)) e;
-  yes = λ e w. ap (λ (v : Verdict). signed_by v (all_hold t ls)) e ∙ ap yes_or_no (all_if t ls w);
-  no = λ e w. ap (λ (v : Verdict). signed_by v (all_hold t ls)) e ∙ no_when t ls w;
+  refused = λ f e. ap (λ (v : Result (Unit {0}) Fault). signed_by v (all_hold t ls)) e;
+  yes = λ e w. ap (λ (v : Result (Unit {0}) Fault). signed_by v (all_hold t ls)) e ∙ ap Ok (all_if t ls w);
+  no = λ e w. ap (λ (v : Result (Unit {0}) Fault). signed_by v (all_hold t ls)) e ∙ ap Ok (no_when t ls w);
   only = λ e. let y = yes_only (sheet_verdict t.profile ls) (all_hold t ls) e in (y.0, all_only t ls y.1);
 }
 
@@ -108,10 +85,10 @@ module _ (profile : Profile) (fs : List BroughtAnswer) where
   same a b e = cc
 
   unknown_not : (b : ℕ) → kept.Unknown ≡ kept.Value b → ⊥
-  unknown_not b e = let z : ◌≡◌ {A = ℕ} 0 1 = cc in omega arith
+  unknown_not b e = cc
 
   no_cell_not : (b : ℕ) → kept.NoCell ≡ kept.Value b → ⊥
-  no_cell_not b e = let z : ◌≡◌ {A = ℕ} 0 1 = cc in omega arith
+  no_cell_not b e = cc
 
   -- what has no cell is not known
   known_cell : (zone command b : ℕ) → kept_in t zone command ≡ kept.Value b → (row : Row) × HasCell profile zone command row
@@ -148,7 +125,7 @@ module _ (profile : Profile) (fs : List BroughtAnswer) where
 
   pub sign_history_promise : (ls : List Line) → SignHistoryPromise profile fs ls
   sign_history_promise ls = record {
-    refused = λ n i e. (sign_promise t ls).refused n i (its_verdict ls ∙ e);
+    refused = λ f e. (sign_promise t ls).refused f (its_verdict ls ∙ e);
     yes = λ a w. (sign_promise t ls).yes (its_verdict ls ∙ a) (all_known [] ls ((sheet_promise profile ls).only a).1 w);
     no = λ a w. (sign_promise t ls).no (its_verdict ls ∙ a) (λ hold. w (all_last ls hold));
     only = λ e. let w = (sign_promise t ls).only e in (sym (its_verdict ls) ∙ w.0, all_last ls w.1);

@@ -13,12 +13,13 @@ use Rattle.signing.specs.Sign.{all_hold, signed_by, sign_off}
 use Rattle.tracker.specs.Capture.{tracked_by}
 use Rattle.signing.specs.Capture.{capture_signed}
 use Rattle.tracker.specs.declared.tracker.Tracker.{Tracker}
-use Rattle.signing.specs.declared.sign.Signed.{Signed}
-use Rattle.signing.specs.declared.sign.Signed.TheVariants as signed
+use Rattle.std.specs.Prelude.{Bool, Err, Result}
+use Rattle.refusals.specs.declared.refusal.Fault.{Fault}
+use Rattle.refusals.specs.Refusal.{fault}
 
 pub sign_together : (t : Tracker) (ls : List Line) → sign_off t (lines_of (with_all no_lines ls)) ≡ sign_off t ls
-sign_together t ls = by_verdict (λ v xs. signed_by v (all_hold t xs)) (λ n i xs ys. refl) t.profile ls
+sign_together t ls = by_verdict (λ v xs. signed_by v (all_hold t xs)) (λ f xs ys. refl) t.profile ls
 
 pub capture_together : (profile : Profile) (ls : List Line) (capture : List ℕ) → capture_signed profile (lines_of (with_all no_lines ls)) capture ≡ capture_signed profile ls capture
 capture_together profile ls capture =
-    ap (λ (s : Signed). ruled (long_capture (length capture) ∷ []) (λ n. signed.Refused n 0) s) (sign_together (tracked_by profile capture) ls)
+    ap (λ (s : Result Bool Fault). ruled (long_capture (length capture) ∷ []) (λ e. Err (fault e 0)) s) (sign_together (tracked_by profile capture) ls)

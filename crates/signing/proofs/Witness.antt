@@ -25,8 +25,10 @@ use Rattle.signing.specs.Capture.{capture_signed}
 use Rattle.tracker.specs.declared.tracker.Tracker.{Tracker}
 use Rattle.tracker.specs.declared.tracker.Kept.{Kept}
 use Rattle.tracker.specs.declared.tracker.Kept.TheVariants.{Value, Unknown, NoCell}
-use Rattle.signing.specs.declared.sign.Signed.TheVariants.{Yes, No, Refused}
 use Rattle.streams.specs.Stream.{answers_by, reader_by}
+use Rattle.std.specs.Prelude.{Err, Ok, true, false}
+use Rattle.refusals.specs.declared.refusal.Refusal.TheVariants.{IllegalLine}
+use Rattle.refusals.specs.Refusal.{fault}
 
 abbrev levelled : Tracker
 levelled = (answer_fed (fresh_tracker A) 2 0x39 0x00 (0xFF ∷ [])).tracker
@@ -92,37 +94,37 @@ history = answer 1 0x38 0x00 0x01 ∷ answer 2 0x39 0x00 0xFF ∷ answer 1 0x38 
 abbrev heard : List BroughtAnswer → Tracker
 heard fs = answers_fed (fresh_tracker A) fs
 
-pub signed_yes_lem : sign_off (heard history) two ≡ Yes
+pub signed_yes_lem : sign_off (heard history) two ≡ Ok true
 unfolding answers_fed all_hold kept_in read_of content_of row_judged first_row table sheet_verdict lowest_fault is_legal is_repeated number_of code_of plain_code_of
 signed_yes_lem = refl
 
-pub denied_yes : sign_off (heard (history ++ answer 1 0x38 0x85 0x01 ∷ [])) two ≡ Yes
+pub denied_yes : sign_off (heard (history ++ answer 1 0x38 0x85 0x01 ∷ [])) two ≡ Ok true
 unfolding answers_fed all_hold kept_in read_of content_of row_judged first_row table sheet_verdict lowest_fault is_legal is_repeated number_of code_of plain_code_of
 denied_yes = refl
 
-pub stale_no : sign_off (heard (history ++ answer 1 0x38 0x00 0x01 ∷ [])) two ≡ No
+pub stale_no : sign_off (heard (history ++ answer 1 0x38 0x00 0x01 ∷ [])) two ≡ Ok false
 unfolding answers_fed all_hold kept_in read_of content_of row_judged first_row table sheet_verdict lowest_fault is_legal is_repeated number_of code_of plain_code_of
 stale_no = refl
 
-pub unknown_no : sign_off (heard history) (two ++ line 1 0x39 0xFF ∷ []) ≡ No
+pub unknown_no : sign_off (heard history) (two ++ line 1 0x39 0xFF ∷ []) ≡ Ok false
 unfolding answers_fed all_hold kept_in read_of content_of row_judged first_row table sheet_verdict lowest_fault is_legal is_repeated number_of code_of plain_code_of
 unknown_no = refl
 
 -- an answered 80 signs a line of 00 off; a line of 80 is 7
-pub zero_yes : sign_off (heard (answer 1 0x3A 0x00 0x80 ∷ [])) (line 1 0x3A 0x00 ∷ []) ≡ Yes
+pub zero_yes : sign_off (heard (answer 1 0x3A 0x00 0x80 ∷ [])) (line 1 0x3A 0x00 ∷ []) ≡ Ok true
 unfolding answers_fed all_hold kept_in read_of content_of row_judged first_row table sheet_verdict lowest_fault is_legal is_repeated number_of code_of plain_code_of
 zero_yes = refl
 
-pub zero_refused : sign_off (heard (answer 1 0x3A 0x00 0x80 ∷ [])) (line 1 0x3A 0x80 ∷ []) ≡ Refused 7 0
+pub zero_refused : sign_off (heard (answer 1 0x3A 0x00 0x80 ∷ [])) (line 1 0x3A 0x80 ∷ []) ≡ Err (fault IllegalLine 0)
 unfolding answers_fed all_hold kept_in read_of content_of row_judged first_row table sheet_verdict lowest_fault is_legal is_repeated number_of code_of plain_code_of
 zero_refused = refl
 
 -- the sheet's refusal; and a sheet of no lines
-pub signed_refused : sign_off (heard history) (line 2 0x39 0xFF ∷ line 2 0x39 0x0B ∷ []) ≡ Refused 7 1
+pub signed_refused : sign_off (heard history) (line 2 0x39 0xFF ∷ line 2 0x39 0x0B ∷ []) ≡ Err (fault IllegalLine 1)
 unfolding answers_fed all_hold kept_in read_of content_of row_judged first_row table sheet_verdict lowest_fault is_legal is_repeated number_of code_of plain_code_of
 signed_refused = refl
 
-pub none_signed : (t : Tracker) → sign_off t [] ≡ Yes
+pub none_signed : (t : Tracker) → sign_off t [] ≡ Ok true
 unfolding all_hold sheet_verdict lowest_fault
 none_signed t = refl
 
@@ -136,11 +138,11 @@ whole =
     ∷ 0x21 ∷ 0x01 ∷ 0x38 ∷ 0x85 ∷ 0x01 ∷ 0x01 ∷ 0x0D
     ∷ []
 
-pub capture_yes : capture_signed A two (whole ++ 0x21 ∷ 0x01 ∷ []) ≡ Yes
+pub capture_yes : capture_signed A two (whole ++ 0x21 ∷ 0x01 ∷ []) ≡ Ok true
 unfolding answers_fed all_hold kept_in read_of content_of row_judged first_row table sheet_verdict lowest_fault is_legal is_repeated in_order events_from events_told answers_by reader_by answer_to taken_after bytes_at is_frame number_of code_of plain_code_of
 capture_yes = refl
 
 -- one answer more that shows another value
-pub capture_no : capture_signed A two (whole ++ 0x21 ∷ 0x01 ∷ 0x38 ∷ 0x00 ∷ 0x01 ∷ 0x01 ∷ 0x0D ∷ []) ≡ No
+pub capture_no : capture_signed A two (whole ++ 0x21 ∷ 0x01 ∷ 0x38 ∷ 0x00 ∷ 0x01 ∷ 0x01 ∷ 0x0D ∷ []) ≡ Ok false
 unfolding answers_fed all_hold kept_in read_of content_of row_judged first_row table sheet_verdict lowest_fault is_legal is_repeated in_order events_from events_told answers_by reader_by answer_to taken_after bytes_at is_frame number_of code_of plain_code_of
 capture_no = refl

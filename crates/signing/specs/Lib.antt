@@ -1,8 +1,7 @@
--- What must be believed: the sign-off, captures, the numbers of the answers, and the promises of these; `Computed` is for proofs alone.
+-- What must be believed: the sign-off, captures, the numbers of the answers, and the promises of these.
 pub mod Sign
 pub mod Capture
 pub mod ByLetter
-pub mod Computed
 pub mod Numbers
 pub mod SignPromise
 pub mod CaptureSignPromise

@@ -1,21 +1,11 @@
-use crate::sign::Signed;
 use sheet::sheet::Sheet;
 use tracker::tracker::Tracker;
 
-// A sheet file held against a capture of answers: the sign-off, and what it goes by, which is the tracker that the capture
-// was fed to and the file's lines.
-#[derive(Clone, Copy)]
+// A sheet file held against a capture of answers: whether its lines agree with them, and what that goes by, which is the
+// tracker that the capture was fed to and the file's lines.
+#[derive(Clone, Copy, Debug, PartialEq, Eq)]
 pub struct HeldFile {
-    pub signed: Signed,
+    pub agrees: bool,
     pub tracker: Tracker,
     pub sheet: Sheet,
-}
-
-// What a capture of answers makes known of a row and zone, or the number of the refusal.
-#[derive(Clone, Copy)]
-pub enum CaptureCell {
-    Value(u8),
-    Unknown,
-    NoCell,
-    Refused(u8),
 }

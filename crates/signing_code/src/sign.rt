@@ -1,63 +1,38 @@
 ghost use Rattle.std.specs.Prelude.{◌≡◌, ◌≤◌};
-ghost use Rattle.sheet.specs.Sheet.{sheet_limit, first_lines, lines_of};
-ghost use Rattle.sheet.specs.declared.check.Verdict.TheVariants.{Accepted};
-ghost use Rattle.signing.specs.Sign.{holds, all_hold, yes_or_no, signed_by, sign_off};
+ghost use Rattle.sheet.specs.Sheet.{sheet_limit, lines_of};
+ghost use Rattle.signing.specs.Sign.{holds, all_hold, sign_off};
 
-use sheet::check::Verdict;
+use refusals::refusal::Fault;
 use sheet::line::Line;
-use sheet::sheet::{SHEET_LIMIT, Sheet};
+use sheet::sheet::Sheet;
 use sheet_code::check::checked;
-use signing::sign::Signed;
 use tracker::tracker::{Kept, Tracker};
 use tracker_code::known::kept_in;
 
 // The sheet's refusal under the tracker's own profile; else yes exactly when every line's cell is known
 // and equal.
 #[tactic(auto, using(sheet::proofs::Sheets::accepted_short))]
-pub fn sign_sheet(tracker: Tracker, sheet: Sheet) -> Signed
+pub fn sign_sheet(tracker: Tracker, sheet: Sheet) -> Result<bool, Fault>
     ensures { result ≡ sign_off tracker (lines_of sheet) }
 {
-    let profile = tracker.profile;
-    signed_by(checked(profile, sheet), tracker, sheet)
+    checked(tracker.profile, sheet)?;
+    Ok(sheet_holds(tracker, sheet))
 }
 
-// What a verdict on the sheet leaves to say: its refusal, or whether every line holds.
-pub(crate) fn signed_by(verdict: Verdict, tracker: Tracker, sheet: Sheet) -> Signed
-    requires { verdict ≡ Accepted → sheet.count ≤ sheet_limit }
-    ensures { result ≡ signed_by verdict (all_hold tracker (lines_of sheet)) }
+// Whether each line of a sheet has its cell known and equal.
+#[tactic(auto, using(sheet::proofs::Faults::first_short))]
+pub(crate) fn sheet_holds(tracker: Tracker, sheet: Sheet) -> bool
+    requires { sheet.count ≤ sheet_limit }
+    ensures { result ≡ all_hold tracker (lines_of sheet) }
 {
-    let lines = sheet.lines;
-    let count = sheet.count;
-    match verdict {
-        Verdict::Accepted => yes_or_no(all_hold(tracker, lines, count)),
-        Verdict::Refused(number, place) => Signed::Refused(number, place),
-    }
+    all_hold(tracker, &sheet.lines[..sheet.count])
 }
 
-fn yes_or_no(agrees: bool) -> Signed
-    ensures { result ≡ yes_or_no agrees }
+#[tactic(auto, unfolding(signing::specs::Sign::all_hold))]
+fn all_hold(tracker: Tracker, lines: &[Line]) -> bool
+    ensures { result ≡ all_hold tracker lines.now }
 {
-    if agrees {
-        return Signed::Yes;
-    }
-    Signed::No
-}
-
-// Whether each of the first lines has its cell known and equal.
-#[tactic(auto, using(sheet::proofs::Faults::first_short, signing::proofs::Signs::stops, signing::proofs::Signs::goes_on, signing::proofs::Signs::ends))]
-fn all_hold(tracker: Tracker, lines: [Line; SHEET_LIMIT], count: usize) -> bool
-    requires { count ≤ sheet_limit }
-    ensures { result ≡ all_hold tracker (first_lines lines count) }
-{
-    let mut i = 0;
-    while i < count {
-        let line = lines[i];
-        if !holds(tracker, line) {
-            return false;
-        }
-        i += 1;
-    }
-    true
+    lines.iter().all(|&line| holds(tracker, line))
 }
 
 // Whether a line's cell is known and equal.
@@ -66,7 +41,6 @@ fn holds(tracker: Tracker, line: Line) -> bool
 {
     match kept_in(tracker, line.zone, line.command) {
         Kept::Value(value) => value == line.value,
-        Kept::Unknown => false,
-        Kept::NoCell => false,
+        Kept::Unknown | Kept::NoCell => false,
     }
 }

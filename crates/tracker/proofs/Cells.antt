@@ -14,11 +14,8 @@ use Rattle.row.specs.Table.{table, row_count, row_of}
 use Rattle.row.specs.declared.profile.Profile.{Profile}
 use Rattle.row.specs.declared.profile.Profile.TheVariants.{A, S}
 use Rattle.row.specs.declared.table.Row.{Row}
-use Rattle.row.specs.declared.table.Found.TheVariants as found
 use Rattle.row.proofs.Rows.{code_found}
 use Rattle.judging.specs.Judge.{is_setting, row_judged}
-use Rattle.judging.specs.declared.judge.Judged.{Judged}
-use Rattle.judging.specs.declared.judge.Judged.TheVariants as judged
 use Rattle.judging.proofs.Judges.{judged_lies}
 use Rattle.lists.proofs.Tests.{both}
 use Rattle.message.proofs.Tidy.{every, row_passes}
@@ -27,6 +24,8 @@ use Rattle.sheet.specs.declared.line.Line.{Line}
 use Rattle.tracker.specs.Cell.{cell_count, cell_of}
 use Rattle.tracker.specs.CellPromise.{HasCell}
 use Rattle.refusals.proofs.Ruled.{or_false}
+use Rattle.std.specs.Prelude.{Err, Ok, Result, Some}
+use Rattle.refusals.specs.declared.refusal.Refusal.{Refusal}
 
 three : (profile : Profile) → zones_of profile ≤ 3
 three A = omega arith
@@ -52,12 +51,12 @@ all_single = refl
 
 -- where zone and row are legal
 pub record Stands (profile : Profile) (zone command : ℕ) (row : Row) : Type 0 where
-  pub there : row_of profile command ≡ found.Row row
+  pub there : row_of profile command ≡ Some row
   pub low : 1 ≤ zone
   pub high : zone ≤ 3
   pub place : row.place < row_count
 
-pub stands : (profile : Profile) (zone command : ℕ) (row : Row) → row_judged profile zone command ≡ judged.Legal row → Stands profile zone command row
+pub stands : (profile : Profile) (zone command : ℕ) (row : Row) → row_judged profile zone command ≡ Ok row → Stands profile zone command row
 stands profile zone command row e =
     let l = judged_lies profile zone command row e in
     let zones = or_false (eqb zone 0) (ltb (zones_of profile) zone) l.within in
@@ -71,16 +70,16 @@ stands profile zone command row e =
     }
 
 -- a cell is one of the tracker's
-pub within : (profile : Profile) (zone command : ℕ) (row : Row) → row_judged profile zone command ≡ judged.Legal row → cell_of row zone < cell_count
+pub within : (profile : Profile) (zone command : ℕ) (row : Row) → row_judged profile zone command ≡ Ok row → cell_of row zone < cell_count
 within profile zone command row e = let l = stands profile zone command row e in omega (arith, l.low, l.high, l.place)
 
-coded : (profile : Profile) (command : ℕ) (row : Row) → row_of profile command ≡ found.Row row → get_or codes row.place 0 ≡ command
+coded : (profile : Profile) (command : ℕ) (row : Row) → row_of profile command ≡ Some row → get_or codes row.place 0 ≡ command
 coded profile command row there =
     eqb-true (get_or codes row.place 0) row.code (row_passes (λ r. eqb (get_or codes r.place 0) r.code) all_coded profile command row there)
     ∙ code_found table (letter_of profile) command row there
 
 -- two cells in one place are of one zone and row
-pub same_cell_lem : (profile : Profile) (zone command z c : ℕ) (row r : Row) → row_judged profile zone command ≡ judged.Legal row → row_judged profile z c ≡ judged.Legal r
+pub same_cell_lem : (profile : Profile) (zone command z c : ℕ) (row r : Row) → row_judged profile zone command ≡ Ok row → row_judged profile z c ≡ Ok r
     → cell_of r z ≡ cell_of row zone → (z ≡ zone) × (c ≡ command)
 same_cell_lem profile zone command z c row r e f same =
     let l = stands profile zone command row e in
@@ -92,23 +91,23 @@ same_cell_lem profile zone command z c row r e f same =
 pub cell_or_none : (profile : Profile) (zone command : ℕ) → ((row : Row) × HasCell profile zone command row) ⊎ ((row : Row) → HasCell profile zone command row → ⊥)
 cell_or_none profile zone command = go (row_judged profile zone command) refl
   where
-    same : (x y : Row) → judged.Legal x ≡ judged.Legal y → x ≡ y
+    same : (x y : Row) → ◌≡◌ {A = Result Row Refusal} (Ok x) (Ok y) → x ≡ y
     same x y e = cc
 
     differ : true ≡ false → ⊥
-    differ w = let z : ◌≡◌ {A = ℕ} 0 1 = cc in omega arith
+    differ w = cc
 
-    refused : (n : ℕ) (x : Row) → judged.Refused n ≡ judged.Legal x → ⊥
-    refused n x e = let z : ◌≡◌ {A = ℕ} 0 1 = cc in omega arith
+    refused : (n : Refusal) (x : Row) → Err n ≡ Ok x → ⊥
+    refused n x e = cc
 
-    half : (x : Row) (t : Bool) → x.pair ≡ t → row_judged profile zone command ≡ judged.Legal x
+    half : (x : Row) (t : Bool) → x.pair ≡ t → row_judged profile zone command ≡ Ok x
         → ((row : Row) × HasCell profile zone command row) ⊎ ((row : Row) → HasCell profile zone command row → ⊥)
     half x true p e = inr (λ row h. differ (sym p ∙ ap (λ (r : Row). r.pair) (same x row (sym e ∙ h.0)) ∙ h.1))
     half x false p e = inl (x, (e, p))
 
-    go : (j : Judged) → row_judged profile zone command ≡ j → ((row : Row) × HasCell profile zone command row) ⊎ ((row : Row) → HasCell profile zone command row → ⊥)
-    go (judged.Legal x) e = half x x.pair refl e
-    go (judged.Refused n) e = inr (λ row h. refused n row (sym e ∙ h.0))
+    go : (j : Result Row Refusal) → row_judged profile zone command ≡ j → ((row : Row) × HasCell profile zone command row) ⊎ ((row : Row) → HasCell profile zone command row → ⊥)
+    go (Ok x) e = half x x.pair refl e
+    go (Err n) e = inr (λ row h. refused n row (sym e ∙ h.0))
 
 -- a line that is legal for a sheet has a cell
 pub legal_cell : (profile : Profile) (l : Line) → is_legal profile l ≡ true → (row : Row) × HasCell profile l.zone l.command row
@@ -120,9 +119,9 @@ legal_cell profile l e = go (row_judged profile l.zone l.command) refl e
     single true false f g = refl
     single false p f g = cc
 
-    go : (j : Judged) → row_judged profile l.zone l.command ≡ j → legal_in j l.value ≡ true → (row : Row) × HasCell profile l.zone l.command row
-    go (judged.Legal row) f legal =
+    go : (j : Result Row Refusal) → row_judged profile l.zone l.command ≡ j → legal_in j l.value ≡ true → (row : Row) × HasCell profile l.zone l.command row
+    go (Ok row) f legal =
         let there = (stands profile l.zone l.command row f).there in
         let test = row_passes (λ r. not r.sheet || not r.pair) all_single profile l.command row there in
         (row, (f, single row.sheet row.pair test (both row.sheet (not (is_minus_zero row l.value) && is_setting row l.value) legal).0))
-    go (judged.Refused n) f legal = let z : ◌≡◌ {A = ℕ} 0 1 = cc in absurd (omega arith)
+    go (Err n) f legal = cc

@@ -21,7 +21,6 @@ use Rattle.frame.specs.declared.reader.ByteAnswer.TheVariants.{Waiting, Noise, F
 use Rattle.frame.specs.declared.capture.Kind.{Kind}
 use Rattle.frame.specs.declared.capture.Kind.TheVariants as kind
 use Rattle.frame.specs.declared.capture.Event.{Event}
-use Rattle.frame.specs.declared.capture.Next.TheVariants as next
 use Rattle.frame.proofs.Events.{events_on, events_noise, events_open, events_fill, events_pending, events_frame, events_next, events_broken}
 use Rattle.frame.proofs.Taken.{Stands}
 use Rattle.fields.specs.Fields.{fields_in, data_in}
@@ -29,6 +28,7 @@ use Rattle.fields.proofs.Back.{frame_promise}
 use Rattle.tracker.specs.Feed.{BroughtAnswer}
 use Rattle.tracker.specs.Capture.{brought_in, brought_at, brought_by}
 use Rattle.tracker.specs.CaptureFedPromise.{unended, BroughtPromise}
+use Rattle.std.specs.Prelude.{Some}
 
 -- the bytes and events behind a front of a capture are those of the rest, further on
 module _ (front rest : List ℕ) where
@@ -175,7 +175,7 @@ brought_one zone command ac body =
     ∙ ap (λ (xs : List BroughtAnswer). record { zone = zone; command = command; answer = ac; body = body } ∷ xs) brought_none
 
 -- the event of a frame, anywhere in a capture
-frame_event : (capture : List ℕ) (at n : ℕ) → first_of (events_from Answer capture at) ≡ next.Event (event at n kind.Frame)
+frame_event : (capture : List ℕ) (at n : ℕ) → first_of (events_from Answer capture at) ≡ Some (event at n kind.Frame)
     → (a : BroughtAnswer) × (brought_at capture (event at n kind.Frame) ≡ a ∷ []) × (frame_of Answer a.zone a.command a.answer a.body ≡ bytes_at capture at n)
 frame_event capture at n e =
     let w = frame_promise.captured Answer capture at n e in

@@ -4,7 +4,6 @@ use mathlib.Core.Bool.{Bool, true, false, cond}
 use mathlib.Core.List.{List, [], ◌∷◌, ◌++◌}
 use mathlib.Core.Logic.{◌⊎◌, inl, inr}
 use Prim.Native.Nat.{ℕ, zero, suc}
-use native.Mathlib.Omega.{arith}
 use borrow.Author.Tests.{eqb-true, eqb-false}
 use lib.Dec.{eqb}
 use lib.ListN.{length-set, get_or, replicate}
@@ -13,15 +12,9 @@ use Rattle.frame.specs.declared.direction.Direction.TheVariants.{Answer}
 use Rattle.row.specs.declared.profile.Profile.{Profile}
 use Rattle.row.specs.declared.table.Row.{Row}
 use Rattle.judging.specs.Judge.{row_judged}
-use Rattle.judging.specs.declared.judge.Judged.{Judged}
-use Rattle.judging.specs.declared.judge.Judged.TheVariants as judged
 use Rattle.message.specs.Message.{read_of, data_read}
 use Rattle.message.specs.declared.content.Content.{Content}
-use Rattle.message.specs.declared.read.Said.{Said}
-use Rattle.message.specs.declared.read.Denial.{Denial}
 use Rattle.message.specs.declared.read.Message.TheVariants as message
-use Rattle.message.specs.declared.read.Reading.{Reading}
-use Rattle.message.specs.declared.read.Reading.TheVariants as reading
 use Rattle.tracker.specs.Cell.{cell_count, cell_of}
 use Rattle.tracker.specs.CellPromise.{HasCell}
 use Rattle.tracker.specs.Tracker.{known_state, fresh_tracker, kept_in}
@@ -31,16 +24,19 @@ use Rattle.tracker.specs.HistoryPromise.{IsStatus, Last, HistoryPromise}
 use Rattle.tracker.specs.declared.tracker.Tracker.{Tracker}
 use Rattle.tracker.specs.declared.tracker.Kept.TheVariants.{Value, Unknown}
 use Rattle.tracker.proofs.Feeds.{with_byte, settle, after_status, feed_promise}
+use Rattle.std.specs.Prelude.{Err, Ok, Result}
+use Rattle.refusals.specs.declared.refusal.Refusal.{Refusal}
+use Rattle.message.specs.declared.read.Message.{Message}
 
 -- a tracker of a profile with all of its cells
 abbrev pub Fit : Profile → Tracker → Type 0
 Fit profile t = (t.profile ≡ profile) × Whole t
 
-fit_put : (profile : Profile) (t : Tracker) (zone : ℕ) (j : Judged) (c : Content) → Fit profile t → Fit profile (made_known t zone j c)
-fit_put profile t zone (judged.Legal row) c f =
+fit_put : (profile : Profile) (t : Tracker) (zone : ℕ) (j : Result Row Refusal) (c : Content) → Fit profile t → Fit profile (made_known t zone j c)
+fit_put profile t zone (Ok row) c f =
     elim row.pair as (λ p. Fit profile (cond p t (with_byte t (cell_of row zone) (first_byte row c))))
     [ true ↦ f | false ↦ (f.0, (length-set t.states (cell_of row zone) known_state ∙ f.1.0, length-set t.values (cell_of row zone) (first_byte row c) ∙ f.1.1)) ]
-fit_put profile t zone (judged.Refused n) c f = f
+fit_put profile t zone (Err n) c f = f
 
 abbrev next : Tracker → BroughtAnswer → Tracker
 next t a = (answer_fed t a.zone a.command a.answer a.body).tracker
@@ -80,21 +76,12 @@ get_d_replicate zero i = refl
 get_d_replicate (suc n) zero = refl
 get_d_replicate (suc n) (suc i) = get_d_replicate n i
 
-command_differs : (x s : Said) → reading.Message (message.Command x) ≡ reading.Message (message.Status s) → ⊥
-command_differs x s e = let z : ◌≡◌ {A = ℕ} 0 1 = cc in omega arith
-
-denial_differs : (d : Denial) (s : Said) → reading.Message (message.Denied d) ≡ reading.Message (message.Status s) → ⊥
-denial_differs d s e = let z : ◌≡◌ {A = ℕ} 0 1 = cc in omega arith
-
-refusal_differs : (n : ℕ) (s : Said) → reading.Refused n ≡ reading.Message (message.Status s) → ⊥
-refusal_differs n s e = let z : ◌≡◌ {A = ℕ} 0 1 = cc in omega arith
-
 module _ (profile : Profile) (zone command : ℕ) where
   -- none of some answers is a status of the zone and command
   abbrev NoneIs : List BroughtAnswer → Type 0
   NoneIs fs = Each (λ (a : BroughtAnswer). IsStatus profile zone command a → ⊥) fs
 
-  abbrev reads : Profile → BroughtAnswer → Reading
+  abbrev reads : Profile → BroughtAnswer → Result Message Refusal
   reads p a = read_of p Answer a.zone a.command a.answer a.body
 
   abbrev shown : Profile → BroughtAnswer → List ℕ
@@ -120,7 +107,7 @@ module _ (profile : Profile) (zone command : ℕ) where
     step_known : (t : Tracker) (a : BroughtAnswer) → Fit profile t → IsStatus profile zone command a → Knows t a
     step_known t a f w =
         let here : HasCell t.profile a.zone a.command row = rw (f.0, w.0, w.1) has in
-        let read : reads t.profile a ≡ reading.Message (message.Status w.2.0) = ap (λ (q : Profile). reads q a) f.0 ∙ w.2.1 in
+        let read : reads t.profile a ≡ Ok (message.Status w.2.0) = ap (λ (q : Profile). reads q a) f.0 ∙ w.2.1 in
         let k = (feed_promise t a.zone a.command a.answer a.body).known f.1 w.2.0 read row here in
         (k.0, ap (λ (q : Profile). shown q a) (sym f.0) ∙ k.1, ap (λ (z : ℕ). kept_in (next t a) z command) (sym w.0) ∙ ap (λ (c : ℕ). kept_in (next t a) a.zone c) (sym w.1) ∙ k.2)
 
@@ -147,14 +134,14 @@ module _ (profile : Profile) (zone command : ℕ) where
     decided : (a : BroughtAnswer) → IsStatus profile zone command a ⊎ (IsStatus profile zone command a → ⊥)
     decided a = go (eqb a.zone zone) (eqb a.command command) (reads profile a) refl refl refl
       where
-        go : (s t : Bool) (r : Reading) → eqb a.zone zone ≡ s → eqb a.command command ≡ t → reads profile a ≡ r
+        go : (s t : Bool) (r : Result Message Refusal) → eqb a.zone zone ≡ s → eqb a.command command ≡ t → reads profile a ≡ r
             → IsStatus profile zone command a ⊎ (IsStatus profile zone command a → ⊥)
         go false t r e f g = inr (λ w. eqb-false a.zone zone e w.0)
         go true false r e f g = inr (λ w. eqb-false a.command command f w.1)
-        go true true (reading.Message (message.Status s)) e f g = inl (eqb-true a.zone zone e, eqb-true a.command command f, (s, g))
-        go true true (reading.Message (message.Command s)) e f g = inr (λ w. command_differs s w.2.0 (sym g ∙ w.2.1))
-        go true true (reading.Message (message.Denied d)) e f g = inr (λ w. denial_differs d w.2.0 (sym g ∙ w.2.1))
-        go true true (reading.Refused n) e f g = inr (λ w. refusal_differs n w.2.0 (sym g ∙ w.2.1))
+        go true true (Ok (message.Status s)) e f g = inl (eqb-true a.zone zone e, eqb-true a.command command f, (s, g))
+        go true true (Ok (message.Command s)) e f g = inr (λ w. let h = w.2.1 in cc)
+        go true true (Ok (message.Denied d)) e f g = inr (λ w. let h = w.2.1 in cc)
+        go true true (Err n) e f g = inr (λ w. let h = w.2.1 in cc)
 
     either : (fs : List BroughtAnswer) → NoneIs fs ⊎ ((b : ℕ) × Last profile zone command fs b)
     either [] = inl tt

@@ -9,6 +9,7 @@ use Rattle.tracker.specs.Tracker.{fresh_tracker, kept_in}
 use Rattle.tracker.specs.Feed.{answer_fed}
 use Rattle.tracker.specs.Capture.{capture_fed}
 use Rattle.tracker.specs.declared.tracker.Tracker.{Tracker}
+use Rattle.fields.specs.declared.fields.Fields.{Fields}
 
 pub new_tracker_one : (profile : Profile) → OneAnswer (λ x. x ≡ fresh_tracker profile)
 new_tracker_one profile = one (fresh_tracker profile)
@@ -16,8 +17,8 @@ new_tracker_one profile = one (fresh_tracker profile)
 pub kept_in_one : (tracker : Tracker) (zone command : ℕ) → OneAnswer (λ x. x ≡ kept_in tracker zone command)
 kept_in_one tracker zone command = one (kept_in tracker zone command)
 
-pub after_answer_one : (tracker : Tracker) (zone command answer : ℕ) (body : List ℕ) → OneAnswer (λ x. x ≡ answer_fed tracker zone command answer body)
-after_answer_one tracker zone command answer body = one (answer_fed tracker zone command answer body)
+pub after_answer_one : (tracker : Tracker) (fields : Fields) (body : List ℕ) → OneAnswer (λ x. x ≡ answer_fed tracker fields.zone fields.command fields.answer body)
+after_answer_one tracker fields body = one (answer_fed tracker fields.zone fields.command fields.answer body)
 
 pub after_capture_one : (tracker : Tracker) (capture : List ℕ) → OneAnswer (λ x. x ≡ capture_fed tracker capture)
 after_capture_one tracker capture = one (capture_fed tracker capture)

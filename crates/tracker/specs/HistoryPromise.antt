@@ -1,6 +1,6 @@
 -- Promise: what a tracker knows of a row and zone is what the last status answer of it said, among all that were fed since it was
 -- made new; where there was none, it is unknown.
-use Rattle.std.specs.Prelude.{◌≡◌, List, [], ◌∷◌, ◌++◌, ◌⊎◌, ℕ}
+use Rattle.std.specs.Prelude.{◌≡◌, List, [], ◌∷◌, ◌++◌, ◌⊎◌, ℕ, Ok}
 use Rattle.lists.specs.Each.{Each}
 use Rattle.frame.specs.declared.direction.Direction.TheVariants as direction
 use Rattle.row.specs.declared.profile.Profile.{Profile}
@@ -8,7 +8,6 @@ use Rattle.row.specs.declared.table.Row.{Row}
 use Rattle.message.specs.Message.{read_of, data_read}
 use Rattle.message.specs.declared.read.Said.{Said}
 use Rattle.message.specs.declared.read.Message.TheVariants as message
-use Rattle.message.specs.declared.read.Reading.TheVariants as reading
 use Rattle.tracker.specs.CellPromise.{HasCell}
 use Rattle.tracker.specs.Tracker.{fresh_tracker, kept_in}
 use Rattle.tracker.specs.Feed.{BroughtAnswer, answers_fed}
@@ -18,7 +17,7 @@ use Rattle.tracker.specs.declared.tracker.Kept.TheVariants.{Value, Unknown}
 abbrev pub IsStatus : Profile → ℕ → ℕ → BroughtAnswer → Type 0
 IsStatus profile zone command a =
     (a.zone ≡ zone) × (a.command ≡ command)
-    × ((s : Said) × (read_of profile direction.Answer a.zone a.command a.answer a.body ≡ reading.Message (message.Status s)))
+    × ((s : Said) × (read_of profile direction.Answer a.zone a.command a.answer a.body ≡ Ok (message.Status s)))
 
 -- the last of some answers that is, with its one byte; document 02, C-14: 80 shows 00
 pub record Last (profile : Profile) (zone command : ℕ) (fs : List BroughtAnswer) (b : ℕ) : Type 0 where

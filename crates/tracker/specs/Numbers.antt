@@ -1,13 +1,13 @@
 -- Document 01, 'Which language form to use': "Where an answer is an enum, a definition gives this paper's number and values for
 -- each of its cases." 'Refusal numbers': "A refusal returns its number and zero for every other field". The number of an
 -- answer that is no refusal is 0.
-use Rattle.std.specs.Prelude.{ℕ, List}
+use Rattle.std.specs.Prelude.{ℕ, List, Err, Ok, Result}
 use Rattle.message.specs.Numbers.{reading_number, Paper, reading_paper}
 use Rattle.tracker.specs.declared.tracker.Kept.{Kept}
 use Rattle.tracker.specs.declared.tracker.Kept.TheVariants as kept
 use Rattle.tracker.specs.declared.feed.AnswerFed.{AnswerFed}
-use Rattle.tracker.specs.declared.capture.CaptureAnswer.{CaptureAnswer}
-use Rattle.tracker.specs.declared.capture.CaptureAnswer.TheVariants as answer
+use Rattle.refusals.specs.declared.refusal.Refusal.{Refusal}
+use Rattle.refusals.specs.Refusal.{number}
 
 -- what is kept: no refusal; 1 stands for a byte, 0 for unknown and 2 for no cell, for which the paper has no numbers; its byte
 abbrev pub kept_state : Kept → ℕ
@@ -28,6 +28,6 @@ abbrev pub fed_paper : AnswerFed → List ℕ → Paper
 fed_paper f body = reading_paper f.tracker.profile f.reading body
 
 -- a capture that was fed: its number; it has no place
-abbrev pub capture_number : CaptureAnswer → ℕ
-capture_number answer.Fed = 0
-capture_number (answer.Refused n) = n
+abbrev pub capture_number : Result (Unit {0}) Refusal → ℕ
+capture_number (Ok u) = 0
+capture_number (Err e) = number e

@@ -1,15 +1,9 @@
 use crate::tracker::Tracker;
+use refusals::refusal::Refusal;
 
-// Whether a capture was fed, or the number of its refusal.
-#[derive(Clone, Copy)]
-pub enum CaptureAnswer {
-    Fed,
-    Refused(u8),
-}
-
-// A tracker once a capture was fed.
-#[derive(Clone, Copy)]
+// A tracker once a capture was fed, and whether it was: with a refusal it is as it was.
+#[derive(Clone, Copy, Debug, PartialEq, Eq)]
 pub struct CaptureFed {
     pub tracker: Tracker,
-    pub answer: CaptureAnswer,
+    pub answer: Result<(), Refusal>,
 }

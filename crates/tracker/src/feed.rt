@@ -1,16 +1,10 @@
 use crate::tracker::Tracker;
-use message::read::Reading;
+use message::read::Message;
+use refusals::refusal::Refusal;
 
-// A tracker once it was fed, and what was fed: the message, or the number of the refusal.
-#[derive(Clone, Copy)]
+// A tracker once it was fed, and what was fed: the message, or the refusal, with which the tracker is as it was.
+#[derive(Clone, Copy, Debug, PartialEq, Eq)]
 pub struct AnswerFed {
     pub tracker: Tracker,
-    pub reading: Reading,
-}
-
-// What an answer makes known: a cell and its byte, or nothing.
-#[derive(Clone, Copy)]
-pub enum Told {
-    Cell(usize, u8),
-    Nothing,
+    pub reading: Result<Message, Refusal>,
 }

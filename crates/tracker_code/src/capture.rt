@@ -5,14 +5,14 @@ ghost use Rattle.tracker.specs.Computed.{told_of, told_at};
 
 use crate::feed::told_by;
 use crate::known::KNOWN;
-use fields::fields::{Brought, frame_data, frame_fields};
-use frame::capture::{Event, Kind, Next};
+use fields::fields::{frame_data, frame_fields};
+use frame::capture::{Event, Kind};
 use frame::direction::Direction;
 use frame_capture::capture::{CAPTURE_LIMIT, next_event};
 use lent::part::bytes_at;
+use refusals::refusal::Refusal;
 use row::profile::Profile;
-use tracker::capture::{CaptureAnswer, CaptureFed};
-use tracker::feed::Told;
+use tracker::capture::CaptureFed;
 use tracker::tracker::Tracker;
 
 // Feeds every answer frame of a capture, in order; noise, broken and pending bytes and refused frames
@@ -22,62 +22,49 @@ pub fn after_capture(tracker: Tracker, capture: &[u8]) -> CaptureFed
 {
     if capture.len() > CAPTURE_LIMIT {
         return CaptureFed {
-            tracker: tracker,
-            answer: CaptureAnswer::Refused(11),
+            tracker,
+            answer: Err(Refusal::TooLong),
         };
     }
-    let next = feed_events(tracker, capture);
     CaptureFed {
-        tracker: next,
-        answer: CaptureAnswer::Fed,
+        tracker: feed_events(tracker, capture),
+        answer: Ok(()),
     }
 }
 
-// The events of a capture, one after another. The tracker stays in this function's own local, and each event answers with
+// The events of a capture, one after another, each from the end of the last. The tracker stays in this function's own local, and each event answers with
 // a cell and its byte: a tracker that is passed on and given back is copied for every event.
-#[tactic(auto, using(frame::proofs::Leads::leads, tracker::proofs::Captures::feeds_told, tracker::proofs::Captures::feeds_end, tracker::proofs::Tells::inside_at))]
+#[tactic(auto, using(tracker::proofs::Captures::event_some, tracker::proofs::Captures::event_inside, tracker::proofs::Captures::feeds_end, tracker::proofs::Tells::inside_at))]
 fn feed_events(tracker: Tracker, capture: &[u8]) -> Tracker
     ensures { result ≡ answers_fed tracker (brought_by capture.now) }
 {
     let profile = tracker.profile;
     let mut next = tracker;
     let mut at = 0;
-    loop {
-        let found = next_event(Direction::Answer, capture, at);
-        let Next::Event(event) = found else {
-            return next;
-        };
+    while let Some(event) = next_event(Direction::Answer, capture, at) {
         at += event.length;
-        let told = told_at(profile, capture, event);
-        let Told::Cell(cell, byte) = told else {
-            continue;
-        };
-        next.states[cell] = KNOWN;
-        next.values[cell] = byte;
+        if let Some((cell, byte)) = told_at(profile, capture, event) {
+            next.states[cell] = KNOWN;
+            next.values[cell] = byte;
+        }
     }
+    next
 }
 
 // What an event makes known: a frame does; any other is nothing.
-fn told_at(profile: Profile, capture: &[u8], event: Event) -> Told
+fn told_at(profile: Profile, capture: &[u8], event: Event) -> Option<(usize, u8)>
     ensures { result ≡ told_at profile capture.now event }
 {
-    let kind = event.kind;
-    match kind {
+    match event.kind {
         Kind::Frame => told_of(profile, bytes_at(capture, event.at, event.length)),
-        Kind::Broken => Told::Nothing,
-        Kind::Noise => Told::Nothing,
-        Kind::Pending => Told::Nothing,
+        Kind::Broken | Kind::Noise | Kind::Pending => None,
     }
 }
 
 // What the bytes of a frame make known.
-fn told_of(profile: Profile, bytes: &[u8]) -> Told
+fn told_of(profile: Profile, bytes: &[u8]) -> Option<(usize, u8)>
     ensures { result ≡ told_of profile bytes.now }
 {
-    let brought = frame_fields(Direction::Answer, bytes);
-    let Brought::Frame(fields) = brought else {
-        return Told::Nothing;
-    };
-    let body = frame_data(Direction::Answer, bytes);
-    told_by(profile, fields.zone, fields.command, fields.answer, body)
+    let fields = frame_fields(Direction::Answer, bytes)?;
+    told_by(profile, fields, frame_data(Direction::Answer, bytes))
 }

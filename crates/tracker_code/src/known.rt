@@ -2,7 +2,6 @@ ghost use Rattle.std.specs.Prelude.{◌≡◌};
 ghost use Rattle.tracker.specs.Tracker.{fresh_tracker, is_spoilt, kept_in};
 
 use crate::cell::cell_of;
-use judging::judge::Judged;
 use judging_code::judge::judge_row;
 use row::profile::Profile;
 use row::table::Row;
@@ -10,7 +9,7 @@ use sheet_code::line::is_sheet_value;
 use tracker::cell::CELLS;
 use tracker::tracker::{Kept, Tracker};
 
-// The state of a cell that is known; any other is unknown.
+// The state of a cell that is known; any other is unknown, so that a state is a number and no enum (`Tracker`).
 pub const KNOWN: u8 = 1;
 
 // A tracker that knows nothing.
@@ -18,7 +17,7 @@ pub fn new_tracker(profile: Profile) -> Tracker
     ensures { result ≡ fresh_tracker profile }
 {
     Tracker {
-        profile: profile,
+        profile,
         states: [0; CELLS],
         values: [0; CELLS],
     }
@@ -29,33 +28,22 @@ pub fn new_tracker(profile: Profile) -> Tracker
 pub fn kept_in(tracker: Tracker, zone: u8, command: u8) -> Kept
     ensures { result ≡ kept_in tracker zone command }
 {
-    let profile = tracker.profile;
-    let judged = judge_row(profile, zone, command);
-    let Judged::Legal(row) = judged else {
-        return Kept::NoCell;
+    let row = match judge_row(tracker.profile, zone, command) {
+        Ok(row) if !row.pair => row,
+        _ => return Kept::NoCell,
     };
-    if row.pair {
-        return Kept::NoCell;
-    }
     let at = cell_of(row, zone);
-    let states = tracker.states;
-    if states[at] != KNOWN {
-        return Kept::Unknown;
+    let value = tracker.values[at];
+    if tracker.states[at] == KNOWN && !is_spoilt(row, value) {
+        Kept::Value(value)
+    } else {
+        Kept::Unknown
     }
-    let values = tracker.values;
-    let value = values[at];
-    if is_spoilt(row, value) {
-        return Kept::Unknown;
-    }
-    Kept::Value(value)
 }
 
 // Whether a kept byte is no legal value of its sheet row: then it was spoilt.
 fn is_spoilt(row: Row, value: u8) -> bool
     ensures { result ≡ is_spoilt row value }
 {
-    if !row.sheet {
-        return false;
-    }
-    !is_sheet_value(row, value)
+    row.sheet && !is_sheet_value(row, value)
 }

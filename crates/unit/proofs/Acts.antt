@@ -3,28 +3,25 @@ use mathlib.Core.Path.{◌≡◌, refl, ap, sym, ◌∙◌, subst}
 use mathlib.Core.Bool.{Bool, true, false, cond, not, ◌&&◌, ◌||◌}
 use mathlib.Core.List.{List}
 use Prim.Native.Nat.{ℕ}
-use borrow.Author.Tests.{eqb-true, not-true}
-use lib.Dec.{eqb, leb}
+use borrow.Author.Tests.{not-true}
+use lib.Dec.{leb}
 use Rattle.refusals.specs.Rule.{Rule}
 use Rattle.fields.specs.Fields.{data_in}
 use Rattle.frame.specs.declared.direction.Direction.TheVariants.{Command}
 use Rattle.frame.proofs.Cases.{cases}
-use Rattle.refusals.proofs.Ruled.{refuses, first_number, refused_with, accepted_by}
+use Rattle.refusals.proofs.Ruled.{refuses, first_refused, refused_with, accepted_by}
 use Rattle.row.specs.Table.{table, row_of}
 use Rattle.row.specs.declared.profile.Profile.{Profile}
 use Rattle.row.specs.declared.table.Row.{Row}
-use Rattle.row.specs.declared.table.Found.{Found}
-use Rattle.row.specs.declared.table.Found.TheVariants as found
-use Rattle.judging.specs.Judge.{is_setting, is_answer, is_pair, judge_rules}
+use Rattle.judging.specs.Judge.{is_setting, is_answer, judge_rules}
 use Rattle.message.specs.Content.{is_leveller_off, content_of, encoded_of, number_code, is_form}
 use Rattle.message.specs.Message.{said, message_in, read_of}
 use Rattle.message.specs.declared.content.Content.{Content}
 use Rattle.message.specs.declared.content.Content.TheVariants.{Request, Up, Down, On, Off, Toggle, LevellerOff, Number, Input}
 use Rattle.message.specs.declared.content.Encoded.{Encoded}
-use Rattle.message.specs.declared.content.Encoded.TheVariants.{One, Two, NoCode}
+use Rattle.message.specs.declared.content.Encoded.TheVariants.{One, Two}
 use Rattle.message.specs.declared.read.Said.{Said}
 use Rattle.message.specs.declared.read.Message.TheVariants as message
-use Rattle.message.specs.declared.read.Reading.TheVariants as reading
 use Rattle.judging.proofs.Judges.{Lies, lies_judged, judged_lies, judge_passes, same_row}
 use Rattle.message.proofs.Fits.{code_fits, fits}
 use Rattle.message.proofs.Forms.{form_promise, form_fits}
@@ -36,13 +33,16 @@ use Rattle.unit.specs.Legal.{LegalSettings, RowIn}
 use Rattle.unit.proofs.Tests.{clash, none_of, implies, implied}
 use Rattle.unit.proofs.Houses.{well, house_promise}
 use Rattle.unit.proofs.Cells.{put_same}
+use Rattle.unit.proofs.Settings.{put_value, put_input}
+use Rattle.std.specs.Prelude.{Err, None, Option, Some}
+use Rattle.refusals.specs.declared.refusal.Refusal.{Refusal}
 
 -- a command that none of the rules refuses: its row, and a form of that row
 pub record Accepted (profile : Profile) (zone command : ℕ) (body : List ℕ) : Type 0 where
   pub row : Row
   pub lies : Lies profile zone command row
   pub row_in : RowIn profile zone command row
-  pub there : row_of profile command ≡ found.Row row
+  pub there : row_of profile command ≡ Some row
   pub form : is_form Command row (content_of Command row body) ≡ true
 
 pub accepted : (profile : Profile) (zone command : ℕ) (body : List ℕ) → refuses (judge_rules profile Command zone command body) ≡ false → Accepted profile zone command body
@@ -71,7 +71,7 @@ module _ (profile : Profile) (s : Settings) (bytes : List ℕ) where
   abbrev does : Row → Done
   does row = acted row s (hears row)
 
-  pub done_refused : (n : ℕ) → heard profile bytes ≡ reading.Refused n → frame_done profile s bytes ≡ refused s (zone_in bytes) (command_in bytes) n
+  pub done_refused : (n : Refusal) → heard profile bytes ≡ Err n → frame_done profile s bytes ≡ refused s (zone_in bytes) (command_in bytes) n
   unfolding frame_done
   done_refused n e = ap (done_by profile s (zone_in bytes) (command_in bytes)) e
 
@@ -79,19 +79,19 @@ module _ (profile : Profile) (s : Settings) (bytes : List ℕ) where
   unfolding frame_done read_of
   done_acted e a =
       ap (done_by profile s (zone_in bytes) (command_in bytes))
-      (accepted_by rules reading.Refused _ e ∙ ap (λ (f : Found). message_in f (λ row. message.Command (hears row))) a.there)
-      ∙ ap (λ (f : Found). acted_in f s (hears a.row)) a.there
+      (accepted_by rules Err _ e ∙ ap (λ (f : Option Row). message_in f (λ row. message.Command (hears row))) a.there)
+      ∙ ap (λ (f : Option Row). acted_in f s (hears a.row)) a.there
 
-  is_refused : refuses rules ≡ true → heard profile bytes ≡ reading.Refused (first_number rules)
+  is_refused : refuses rules ≡ true → heard profile bytes ≡ Err (first_refused rules)
   unfolding read_of
-  is_refused e = refused_with rules reading.Refused _ (first_number rules) e refl
+  is_refused e = refused_with rules Err _ (first_refused rules) e refl
 
   -- what holds after a refusal, and after a command that acts, holds after any frame
-  pub either : (P : Done → Type 0) → ((n : ℕ) → P (refused s (zone_in bytes) (command_in bytes) n)) → ((a : accepts) → P (does a.row)) → P (frame_done profile s bytes)
+  pub either : (P : Done → Type 0) → ((n : Refusal) → P (refused s (zone_in bytes) (command_in bytes) n)) → ((a : accepts) → P (does a.row)) → P (frame_done profile s bytes)
   either P denied acts = go (refuses rules) refl
     where
       go : (t : Bool) → refuses rules ≡ t → P (frame_done profile s bytes)
-      go true e = subst P (sym (done_refused (first_number rules) (is_refused e))) (denied (first_number rules))
+      go true e = subst P (sym (done_refused (first_refused rules) (is_refused e))) (denied (first_refused rules))
       go false e =
           let a = accepted profile (zone_in bytes) (command_in bytes) (data_in Command bytes) e in
           subst P (sym (done_acted e a)) (acts a)
@@ -104,7 +104,7 @@ pairs_alone_lem : every pairs_alone table ≡ true
 unfolding table upto
 pairs_alone_lem = refl
 
-module _ (profile : Profile) (command : ℕ) (row : Row) (there : row_of profile command ≡ found.Row row) (paired : row.pair ≡ true) where
+module _ (profile : Profile) (command : ℕ) (row : Row) (there : row_of profile command ≡ Some row) (paired : row.pair ≡ true) where
   alone : (not (row.steps || (row.switch || (row.toggle || row.off))) ≡ true) × (upto 256 (λ b. not (is_setting row b)) ≡ true)
   alone = both _ _ (implied row.pair _ (row_passes pairs_alone pairs_alone_lem profile command row there) paired)
 
@@ -116,10 +116,10 @@ module _ (profile : Profile) (command : ℕ) (row : Row) (there : row_of profile
       let w = well profile command row there in
       not-true _ (upto_at 256 (λ b. not (is_setting row b)) alone.1 b (w.answer_byte b (w.set_answer b e)))
 
-  no_code : {X : Type 0} (x : Encoded) → code_fits Command row x ≡ true → X
-  no_code (One c) f = let s = (both (is_setting row c) (not (is_leveller_off row c)) f).0 in clash (sym (no_setting c s) ∙ s)
-  no_code (Two b c) f = clash f
-  no_code NoCode f = clash f
+  no_code : {X : Type 0} (x : Option Encoded) → code_fits Command row x ≡ true → X
+  no_code (Some (One c)) f = let s = (both (is_setting row c) (not (is_leveller_off row c)) f).0 in clash (sym (no_setting c s) ∙ s)
+  no_code (Some (Two b c)) f = clash f
+  no_code None f = clash f
 
   pub paired_form : (P : Content → Type 0) → P Request → ((i : ℕ) (on : Bool) → is_answer row i ≡ true → P (Input i on)) → (c : Content) → is_form Command row c ≡ true → P c
   paired_form P r p c form = go c (form_fits profile command row Command c there form)
@@ -148,33 +148,6 @@ bit_small true = refl
 bit_small false = refl
 
 module _ (profile : Profile) (s : Settings) (l : LegalSettings profile s) where
-  -- a row's value in a zone, and an input's, put where they are legal
-  put_value : (zone command v : ℕ) → ((row : Row) → RowIn profile zone command row → row.pair ≡ false → is_answer row v ≡ true) → LegalSettings profile (put s (value zone command) v)
-  put_value zone command v fits = record {
-    rows = λ z c row there single. go z c row there single (same_setting (value zone command) (value z c)) refl;
-    inputs = l.inputs;
-    now = l.now;
-  }
-    where
-      go : (z c : ℕ) (row : Row) → RowIn profile z c row → row.pair ≡ false → (t : Bool) → same_setting (value zone command) (value z c) ≡ t
-          → is_answer row (cond t v (s (value z c))) ≡ true
-      go z c row there single true e =
-          let (same-zone, same-command) = both (eqb zone z) (eqb command c) e in
-          fits row (rw (eqb-true zone z same-zone, eqb-true command c same-command) there) single
-      go z c row there single false e = l.rows z c row there single
-
-  put_input : (i v : ℕ) → leb v 1 ≡ true → LegalSettings profile (put s (input i) v)
-  put_input i v small = record {
-    rows = l.rows;
-    inputs = λ z c row there paired j known. go z c row there paired j known (same_setting (input i) (input j)) refl;
-    now = l.now;
-  }
-    where
-      go : (z c : ℕ) (row : Row) → RowIn profile z c row → row.pair ≡ true → (j : ℕ) → is_answer row j ≡ true → (t : Bool) → same_setting (input i) (input j) ≡ t
-          → is_pair row j (cond t v (s (input j))) ≡ true
-      go z c row there paired j known true e = rw (paired, small, known)
-      go z c row there paired j known false e = l.inputs z c row there paired j known
-
   module _ (zone command : ℕ) (body : List ℕ) (a : Accepted profile zone command body) where
     -- the value that a command makes is legal in its row
     pub made_legal : (c : Content) → is_form Command a.row c ≡ true → (row : Row) → RowIn profile zone command row → row.pair ≡ false
@@ -194,10 +167,10 @@ module _ (profile : Profile) (s : Settings) (l : LegalSettings profile s) where
         go true e =
             paired_form profile command a.row a.there e (λ c. LegalSettings profile (made c (about a.row s zone command c)))
             (subst (LegalSettings profile) (sym (put_same s (about a.row s zone command Request))) l)
-            (λ i on known. subst (λ (x : Setting). LegalSettings profile (made (Input i on) x)) (sym (about_pair a.row s zone command (Input i on) e)) (put_input i (cond on 0x01 0x00) (bit_small on))) c f
+            (λ i on known. subst (λ (x : Setting). LegalSettings profile (made (Input i on) x)) (sym (about_pair a.row s zone command (Input i on) e)) (put_input profile s l i (cond on 0x01 0x00) (λ z c row there paired known. rw (paired, bit_small on, known)))) c f
         go false e =
             subst (λ (x : Setting). LegalSettings profile (made c x)) (sym (about_single a.row s zone command c e))
-            (put_value zone command (value_after a.row c (s (value zone command))) (made_legal c f))
+            (put_value profile s l zone command (value_after a.row c (s (value zone command))) (made_legal c f))
 
 pub frame_legal : (profile : Profile) (s : Settings) (bytes : List ℕ) → LegalSettings profile s → LegalSettings profile (frame_done profile s bytes).settings
 frame_legal profile s bytes l =

@@ -6,25 +6,23 @@ use mathlib.Core.Logic.{◌⊎◌, inl, inr}
 use Prim.Native.Nat.{ℕ, zero, suc, ◌<◌}
 use native.Mathlib.Omega.{arith}
 use borrow.Author.Tests.{leb-true}
-use lib.Dec.{eqb, leb}
+use lib.Dec.{leb}
 use lib.ListN.{length, get_or}
 use Rattle.frame.specs.Frame.{frame_of}
 use Rattle.fields.specs.Fields.{data_in}
 use Rattle.frame.specs.declared.direction.Direction.TheVariants.{Command, Answer}
 use Rattle.fields.proofs.Back.{frame_promise}
-use Rattle.frame.proofs.Cases.{cases}
 use Rattle.refusals.proofs.Ruled.{was_accepted, accepted_by}
 use Rattle.row.specs.declared.profile.Profile.{Profile}
 use Rattle.row.specs.declared.table.Row.{Row}
-use Rattle.row.specs.declared.table.Found.{Found}
 use Rattle.judging.specs.Judge.{is_answer, is_pair, has_length, has_value, has_data, judge_rules}
 use Rattle.message.specs.Content.{content_of, is_form}
 use Rattle.message.specs.Message.{said, message_in, message_of, read_rules, read_of, from_reading, frame_read}
 use Rattle.message.specs.declared.content.Content.{Content}
 use Rattle.message.specs.declared.content.Content.TheVariants.{Request, Input}
 use Rattle.message.specs.declared.read.Said.{Said}
+use Rattle.message.specs.declared.read.Message.{Message}
 use Rattle.message.specs.declared.read.Message.TheVariants as message
-use Rattle.message.specs.declared.read.Reading.TheVariants as reading
 use Rattle.judging.proofs.Judges.{first_number_lem, judge_numbers, passes_judge}
 use Rattle.message.proofs.Order.{order_promise}
 use Rattle.message.proofs.Readings.{frame_some}
@@ -38,6 +36,9 @@ use Rattle.unit.specs.UnitPromise.{ToldStatus, ToldDenial, DonePromise}
 use Rattle.unit.proofs.Cells.{cell_self}
 use Rattle.unit.proofs.Houses.{well}
 use Rattle.unit.proofs.Acts.{either, about_pair, about_single, bit_small, paired_form, Accepted, accepted, done_refused, done_acted, made_legal, frame_legal, frame_now}
+use Rattle.std.specs.Prelude.{Err, Ok, Option, Result}
+use Rattle.refusals.specs.declared.refusal.Refusal.{Refusal}
+use Rattle.refusals.specs.declared.refusal.Refusal.TheVariants.{WrongZone, NoRow, WrongLength, WrongValue, NoStep}
 
 -- an answer's frame reads as its fields do
 pub answer_reads : (profile : Profile) (zone command ac : ℕ) (body : List ℕ)
@@ -48,20 +49,19 @@ answer_reads profile zone command ac body =
     ∙ ap (λ (xs : List ℕ). from_reading (read_of profile Answer zone command ac xs)) b.load
 
 -- a refusal is answered with a code that denies
-pub denied_reads : (profile : Profile) (zone command n : ℕ)
-    → read_of profile Answer zone command (refusal_code n) [] ≡ reading.Message (message.Denied (record { zone = zone; command = command; answer = refusal_code n }))
+pub denied_reads : (profile : Profile) (zone command : ℕ) (n : Refusal)
+    → read_of profile Answer zone command (refusal_code n) [] ≡ Ok (message.Denied (record { zone = zone; command = command; answer = refusal_code n }))
 unfolding read_of
-denied_reads profile zone command n =
-    cases Denies (eqb n 1) (λ e. refl) (λ e. cases Denies (eqb n 2) (λ f. refl) (λ f. cases Denies (eqb n 3) (λ g. refl) (λ g. refl)))
-  where
-    Denies : ℕ → Type 0
-    Denies ac = read_of profile Answer zone command ac [] ≡ reading.Message (message.Denied (record { zone = zone; command = command; answer = ac }))
+denied_reads profile zone command WrongZone = refl
+denied_reads profile zone command NoRow = refl
+denied_reads profile zone command WrongLength = refl
+denied_reads profile zone command _ = refl
 
--- a command is refused with one of these numbers
-abbrev OfCommand : ℕ → Type 0
-OfCommand k = (k ≡ 1) ⊎ (k ≡ 2) ⊎ (k ≡ 3) ⊎ (k ≡ 4) ⊎ (k ≡ 13)
+-- a command is refused with one of these
+abbrev OfCommand : Refusal → Type 0
+OfCommand k = (k ≡ WrongZone) ⊎ (k ≡ NoRow) ⊎ (k ≡ WrongLength) ⊎ (k ≡ WrongValue) ⊎ (k ≡ NoStep)
 
-of_command : (profile : Profile) (zone command : ℕ) (body : List ℕ) (n : ℕ) → read_of profile Command zone command 0 body ≡ reading.Refused n → OfCommand n
+of_command : (profile : Profile) (zone command : ℕ) (body : List ℕ) (n : Refusal) → read_of profile Command zone command 0 body ≡ Err n → OfCommand n
 of_command profile zone command body n e =
     first_number_lem OfCommand (judge_rules profile Command zone command body)
     (judge_numbers OfCommand (inl refl) (inr (inl refl)) (inr (inr (inl refl))) profile Command (inr (inr (inr (inr refl))), (inr (inr (inr (inl refl))), tt)) zone command body) n
@@ -106,12 +106,12 @@ module _ (profile : Profile) (s : Settings) (l : LegalSettings profile s) (z k :
           (shows_single (value_after r c (s (value z k))) e (made_legal profile s l z k d a c f r a.row_in e))
 
   -- legal data of an answer are read as a status
-  status_reads : (b : List ℕ) → has_data Answer r b ≡ true → read_of profile Answer z k 0 b ≡ reading.Message (message.Status (said Answer r z k b))
+  status_reads : (b : List ℕ) → has_data Answer r b ≡ true → read_of profile Answer z k 0 b ≡ Ok (message.Status (said Answer r z k b))
   unfolding read_of
   status_reads b h =
       let (long, fits) = both (has_length Answer r (length b)) (has_value Answer r b) h in
       let pass = passes_judge profile Answer z k b r a.lies long fits in
-      accepted_by (read_rules profile Answer z k 0 b) reading.Refused _ pass ∙ ap (λ (f : Found). message_in f (λ row. message.Status (said Answer row z k b))) a.there
+      accepted_by (read_rules profile Answer z k 0 b) Err _ pass ∙ ap (λ (f : Option Row). message_in f (λ row. message.Status (said Answer row z k b))) a.there
 
   abbrev c : Content
   c = content_of Command r d
@@ -127,7 +127,7 @@ module _ (profile : Profile) (s : Settings) (l : LegalSettings profile s) (z k :
   data_legal = rw held (shows c a.form).0
 
   -- the answer's data read as a status, and which cell they show
-  pub reads_said : read_of profile Answer z k 0 (shown (x c) (later (x c))) ≡ reading.Message (message.Status (said Answer r z k (shown (x c) (later (x c)))))
+  pub reads_said : read_of profile Answer z k 0 (shown (x c) (later (x c))) ≡ Ok (message.Status (said Answer r z k (shown (x c) (later (x c)))))
   reads_said = status_reads (shown (x c) (later (x c))) data_legal
 
   pub which_cell : (x c ≡ value z k) ⊎ ((i : ℕ) × (x c ≡ input i))
@@ -155,7 +155,7 @@ module _ (profile : Profile) (s : Settings) (l : LegalSettings profile s) (z k :
 
 -- a frame's promise
 module _ (profile : Profile) (s : Settings) (bytes : List ℕ) where
-  frame_denied : (n : ℕ) → heard profile bytes ≡ reading.Refused n → ToldDenial profile bytes n (frame_done profile s bytes)
+  frame_denied : (n : Refusal) → heard profile bytes ≡ Err n → ToldDenial profile bytes n (frame_done profile s bytes)
   frame_denied n e =
       let z = zone_in bytes in
       let k = command_in bytes in
@@ -166,22 +166,22 @@ module _ (profile : Profile) (s : Settings) (bytes : List ℕ) where
             ∙ answer_reads profile z k (refusal_code n) [] ∙ ap from_reading (denied_reads profile z k n);
       }
 
-  frame_told : LegalSettings profile s → (c : Said) → heard profile bytes ≡ reading.Message (message.Command c) → ToldStatus profile c (frame_done profile s bytes)
+  frame_told : LegalSettings profile s → (c : Said) → heard profile bytes ≡ Ok (message.Command c) → ToldStatus profile c (frame_done profile s bytes)
   unfolding read_of
   frame_told l c e =
       let z = zone_in bytes in
       let k = command_in bytes in
       let d = data_in Command bytes in
-      let w = was_accepted (judge_rules profile Command z k d) reading.Refused (message_of profile Command z k 0 d) (reading.Message (message.Command c)) e differ in
+      let w = was_accepted (judge_rules profile Command z k d) Err (message_of profile Command z k 0 d) (Ok (message.Command c)) e differ in
       let a = accepted profile z k d w.0 in
-      let means = ap (λ (f : Found). message_in f (λ row. message.Command (said Command row z k d))) a.there in
+      let means = ap (λ (f : Option Row). message_in f (λ row. message.Command (said Command row z k d))) a.there in
       subst (λ (y : Said). ToldStatus profile y (frame_done profile s bytes)) (same (sym means ∙ w.1))
       (subst (ToldStatus profile (said Command a.row z k d)) (sym (done_acted profile s bytes w.0 a)) (told_said profile s l z k d a))
     where
-      differ : (n : ℕ) → reading.Refused n ≡ reading.Message (message.Command c) → ⊥
-      differ n f = let y : ◌≡◌ {A = ℕ} 0 1 = cc in omega arith
+      differ : (n : Refusal) → Err n ≡ Ok (message.Command c) → ⊥
+      differ n f = cc
 
-      same : {y : Said} → reading.Message (message.Command y) ≡ reading.Message (message.Command c) → y ≡ c
+      same : {y : Said} → ◌≡◌ {A = Result Message Refusal} (Ok (message.Command y)) (Ok (message.Command c)) → y ≡ c
       same f = cc
 
   pub done_promise : DonePromise profile s bytes
@@ -206,9 +206,11 @@ answer_bytes : (zone command ac : ℕ) (body : List ℕ) → zone < 256 → comm
 unfolding frame_of
 answer_bytes zone command ac body z c a n b = (omega arith, (z, (c, (a, (n, bytes_append body (0x0D ∷ []) b (omega arith, tt))))))
 
-code_small : (n : ℕ) → refusal_code n < 256
-code_small n =
-    cases (λ (k : ℕ). k < 256) (eqb n 1) (λ e. omega arith) (λ e. cases (λ (k : ℕ). k < 256) (eqb n 2) (λ f. omega arith) (λ f. cases (λ (k : ℕ). k < 256) (eqb n 3) (λ g. omega arith) (λ g. omega arith)))
+code_small : (n : Refusal) → refusal_code n < 256
+code_small WrongZone = omega arith
+code_small NoRow = omega arith
+code_small WrongLength = omega arith
+code_small _ = omega arith
 
 shown_short : (y : Setting) (w : ℕ) → length (shown y w) < 256
 shown_short (value zone command) w = omega arith

@@ -1,9 +1,10 @@
 -- Settings are told apart, and compared.
 use Prim.Native.Nat.{ℕ}
 use mathlib.Core.Path.{◌≡◌, refl, ap, fun_ext}
-use mathlib.Core.Bool.{Bool, true, false, cond}
+use mathlib.Core.Bool.{true}
 use borrow.Author.Tests.{eq-eqb, eqb-true}
 use lib.Dec.{eqb}
+use Rattle.frame.proofs.Cases.{cases}
 use Rattle.lists.proofs.Tests.{both}
 use Rattle.unit.specs.Unit.{Setting, value, input, current, Settings, same_setting, put, Unit, compared, Holds}
 use Rattle.unit.proofs.Tests.{clash}
@@ -28,11 +29,7 @@ cell_self current = refl
 
 -- a cell with its own value again
 pub put_same : (s : Settings) (x : Setting) → put s x (s x) ≡ s
-put_same s x = fun_ext (λ y. go y (same_setting x y) refl)
-  where
-    go : (y : Setting) (t : Bool) → same_setting x y ≡ t → cond t (s x) (s y) ≡ s y
-    go y true e = ap s (is_cell x y e)
-    go y false e = refl
+put_same s x = fun_ext (λ y. cases (λ (v : ℕ). v ≡ s y) (same_setting x y) (λ e. ap s (is_cell x y e)) (λ e. refl))
 
 -- the same value is held
 pub holds_same : (u : Unit) (x : Setting) (v : ℕ) → u.settings x ≡ v → Holds u x v

@@ -8,21 +8,19 @@ use Rattle.frame.specs.declared.direction.Direction.TheVariants.{Answer}
 use Rattle.row.specs.Table.{row_of}
 use Rattle.row.specs.declared.profile.Profile.{Profile}
 use Rattle.row.specs.declared.table.Row.{Row}
-use Rattle.row.specs.declared.table.Found.{Found}
-use Rattle.row.specs.declared.table.Found.TheVariants as found
 use Rattle.message.specs.declared.read.Said.{Said}
 use Rattle.message.specs.declared.read.Message.TheVariants as message
-use Rattle.message.specs.declared.read.Reading.TheVariants as reading
 use Rattle.unit.specs.House.{value_after}
 use Rattle.unit.specs.Unit.{Setting, value, input, current, Settings, put, Unit, shown, about, Done, acted_in, done_by, byte_done, zone_in, command_in, heard, frame_done}
 use Rattle.unit.specs.UnitPromise.{ActPromise, BytePromise}
 use Rattle.unit.proofs.Cells.{cell_self, put_same}
 use Rattle.streams.specs.Stream.{answers_by}
 use Rattle.lists.specs.InOrder.{in_order}
+use Rattle.std.specs.Prelude.{Ok, Option, Some}
 
 -- a command acts about one cell, over the row that was found
-module _ (profile : Profile) (s : Settings) (bytes : List ℕ) (c : Said) (h : heard profile bytes ≡ reading.Message (message.Command c)) (row : Row)
-    (there : row_of profile c.command ≡ found.Row row) where
+module _ (profile : Profile) (s : Settings) (bytes : List ℕ) (c : Said) (h : heard profile bytes ≡ Ok (message.Command c)) (row : Row)
+    (there : row_of profile c.command ≡ Some row) where
   abbrev does : Row → Setting → Done
   does r x =
       let later = put s x (value_after r c.content (s x)) in
@@ -32,7 +30,7 @@ module _ (profile : Profile) (s : Settings) (bytes : List ℕ) (c : Said) (h : h
   unfolding frame_done
   acts =
       ap (done_by profile s (zone_in bytes) (command_in bytes)) h
-      ∙ ap (λ (f : Found). acted_in f s c) there
+      ∙ ap (λ (f : Option Row). acted_in f s c) there
 
   -- about this cell, with this value then
   at_cell : (x : Setting) (v : ℕ) → about row s c.zone c.command c.content ≡ x → value_after row c.content (s x) ≡ v

@@ -1,14 +1,13 @@
 -- The house rules hold in every row: what they ask of the table is tested over all of it, once.
 use mathlib.Core.Path.{◌≡◌, refl, ap, sym, ◌∙◌}
 use mathlib.Core.Bool.{Bool, true, false, cond, not, ◌&&◌, ◌||◌, or-true}
-use mathlib.Core.List.{List, [], ◌∷◌}
+use mathlib.Core.List.{[], ◌∷◌}
 use mathlib.Core.Logic.{inl, inr}
 use Prim.Native.Nat.{ℕ, ◌<◌}
 use native.Mathlib.Omega.{arith}
 use borrow.Author.Tests.{not-true, eqb-true}
 use lib.Dec.{T, eqb, leb}
 use lib.IntN.{ℤ, pos, negsuc, suc_ℤ, pred_ℤ}
-use lib.ListN.{get_or}
 use lib.Signed.{le_z, le_z_yes}
 use Rattle.frame.specs.declared.direction.Direction.TheVariants.{Command}
 use Rattle.frame.proofs.Cases.{cases}
@@ -16,17 +15,14 @@ use Rattle.row.specs.MinusZero.{is_minus_zero, normal}
 use Rattle.row.specs.Signed.{number_of, code_of, plain_code_of}
 use Rattle.row.specs.Table.{table, row_of}
 use Rattle.row.specs.declared.profile.Profile.{Profile}
-use Rattle.row.specs.declared.signed.Coded.{Coded}
-use Rattle.row.specs.declared.signed.Coded.TheVariants as number
 use Rattle.row.specs.declared.table.Row.{Row}
-use Rattle.row.specs.declared.table.Found.TheVariants as found
 use Rattle.row.proofs.Inverse.{signed_promise}
 use Rattle.judging.specs.Judge.{is_setting, is_answer, is_word}
 use Rattle.message.specs.Content.{is_leveller_off, number_in, content_of, encoded_of, encoded_data, encoded_code, number_code, is_form}
 use Rattle.message.specs.declared.content.Content.{Content}
 use Rattle.message.specs.declared.content.Content.TheVariants.{Request, Up, Down, On, Off, Toggle, LevellerOff, Number, Input}
 use Rattle.message.specs.declared.content.Encoded.{Encoded}
-use Rattle.message.specs.declared.content.Encoded.TheVariants.{One, Two, NoCode}
+use Rattle.message.specs.declared.content.Encoded.TheVariants.{One, Two}
 use Rattle.message.proofs.Fits.{code_fits, fits}
 use Rattle.message.proofs.Forms.{form_promise, form_fits}
 use Rattle.lists.proofs.Tests.{both, upto, upto_at}
@@ -34,22 +30,23 @@ use Rattle.message.proofs.Tidy.{are_bytes, code_byte, every, row_passes}
 use Rattle.unit.specs.House.{is_not_calculated, unless_not_calculated, landed, stepped, coded, value_after}
 use Rattle.unit.specs.HousePromise.{IsNumber, Highest, Lowest, Steps, HousePromise}
 use Rattle.unit.proofs.Tests.{clash, none_of, implies, implied}
+use Rattle.std.specs.Prelude.{None, Option, Some}
 
 -- a step: where the next number has no code among the answers the value is the end; where it has one it is not off
 abbrev is_number : Row → ℕ → Bool
 is_number row v = is_answer row v && not (is_leveller_off row v)
 
-abbrev has_code : Row → Encoded → Bool
-has_code row (One c) = is_answer row c
-has_code row (Two b c) = false
-has_code row NoCode = false
+abbrev has_code : Row → Option Encoded → Bool
+has_code row (Some (One c)) = is_answer row c
+has_code row (Some (Two b c)) = false
+has_code row None = false
 
-abbrev not_off : Row → Encoded → Bool
-not_off row (One c) = not (is_leveller_off row c)
-not_off row (Two b c) = true
-not_off row NoCode = true
+abbrev not_off : Row → Option Encoded → Bool
+not_off row (Some (One c)) = not (is_leveller_off row c)
+not_off row (Some (Two b c)) = true
+not_off row None = true
 
-abbrev lands : Row → Encoded → Bool → Bool
+abbrev lands : Row → Option Encoded → Bool → Bool
 lands row x end = cond (has_code row x) (not_off row x) end
 
 abbrev no_higher : Row → ℕ → ℕ → Bool
@@ -118,58 +115,58 @@ true_so : {t : Bool} → t ≡ true → T t
 true_so e = rw e tt
 
 -- the number of a code is the number whose code it is
-number_of_lem : (signed : Bool) (z : ℤ) (c : ℕ) → cond signed (code_of z) (plain_code_of z) ≡ number.Code c → cond signed (number_of c) (pos c) ≡ z
+number_of_lem : (signed : Bool) (z : ℤ) (c : ℕ) → cond signed (code_of z) (plain_code_of z) ≡ Some c → cond signed (number_of c) (pos c) ≡ z
 unfolding plain_code_of
 number_of_lem true z c e = signed_promise.number_of_code z c e
 number_of_lem false (pos n) c e = go (leb n 0xFF) e
   where
-    go : (t : Bool) → cond t (number.Code n) number.NoCode ≡ number.Code c → pos c ≡ pos n
+    go : (t : Bool) → cond t (Some n) None ≡ Some c → pos c ≡ pos n
     go true f = cc
     go false f = cc
 number_of_lem false (negsuc n) c e = cc
 
-one_code : (x : Coded) (c : ℕ) → encoded_code x ≡ One c → x ≡ number.Code c
-one_code (number.Code b) c e = cc
-one_code number.NoCode c e = cc
+one_code : (x : Option ℕ) (c : ℕ) → encoded_code x ≡ Some (One c) → x ≡ Some c
+one_code (Some b) c e = cc
+one_code None c e = cc
 
-number_is : (row : Row) (z : ℤ) (c : ℕ) → number_code row z ≡ One c → number_in row c ≡ z
+number_is : (row : Row) (z : ℤ) (c : ℕ) → number_code row z ≡ Some (One c) → number_in row c ≡ z
 number_is row z c e = number_of_lem row.signed z c (one_code _ c e)
 
 -- and it is never minus zero: 0 has the code 00
-code_other : (row : Row) (z : ℤ) (c : ℕ) → number_code row z ≡ One c → is_minus_zero row c ≡ false
+code_other : (row : Row) (z : ℤ) (c : ℕ) → number_code row z ≡ Some (One c) → is_minus_zero row c ≡ false
 unfolding number_of code_of
 code_other row z c e = go (eqb c 0x80) row.signed refl refl
   where
-    zero_not : number.Code 0x00 ≡ number.Code 0x80 → ⊥
+    zero_not : ◌≡◌ {A = Option ℕ} (Some 0x00) (Some 0x80) → ⊥
     zero_not f = let same : ◌≡◌ {A = ℕ} 0x00 0x80 = cc in omega (arith, same)
 
     go : (t u : Bool) → eqb c 0x80 ≡ t → row.signed ≡ u → t && u ≡ false
     go false u f s = refl
     go true false f s = refl
     go true true f s =
-        let coded : code_of z ≡ number.Code 0x80 =
-        sym (ap (λ (t : Bool). cond t (code_of z) (plain_code_of z)) s) ∙ one_code _ c e ∙ ap number.Code (eqb-true c 0x80 f) in
+        let coded : code_of z ≡ Some 0x80 =
+        sym (ap (λ (t : Bool). cond t (code_of z) (plain_code_of z)) s) ∙ one_code _ c e ∙ ap Some (eqb-true c 0x80 f) in
         absurd (zero_not (ap code_of (signed_promise.number_of_code z 0x80 coded) ∙ coded))
 
 -- data of one byte are its code
-coded_is : (x : Encoded) (v w : ℕ) → encoded_data x ≡ w ∷ [] → coded x v ≡ w
-coded_is (One c) v w e = ap (λ (l : List ℕ). get_or l 0 0) e
-coded_is (Two b c) v w e = let z : ◌≡◌ {A = ℕ} 2 1 = ap lib.ListN.length e in absurd (omega arith)
-coded_is NoCode v w e = let z : ◌≡◌ {A = ℕ} 0 1 = ap lib.ListN.length e in absurd (omega arith)
+coded_is : (x : Option Encoded) (v w : ℕ) → encoded_data x ≡ w ∷ [] → coded x v ≡ w
+coded_is (Some (One c)) v w e = cc
+coded_is (Some (Two b c)) v w e = cc
+coded_is None v w e = cc
 
-module _ (profile : Profile) (command : ℕ) (row : Row) (there : row_of profile command ≡ found.Row row) where
+module _ (profile : Profile) (command : ℕ) (row : Row) (there : row_of profile command ≡ Some row) where
   pub well : Well row
   well = well_of row (row_passes codes_well all_codes_well profile command row there)
 
   -- a step, by the code of the number that it moves to
-  landing : (z : ℤ) (v : ℕ) (End : Type 0) (x : Encoded) → number_code row z ≡ x → (has_code row x ≡ true → not_off row x ≡ true) → (has_code row x ≡ false → End)
+  landing : (z : ℤ) (v : ℕ) (End : Type 0) (x : Option Encoded) → number_code row z ≡ x → (has_code row x ≡ true → not_off row x ≡ true) → (has_code row x ≡ false → End)
       → Steps row v (landed row x v) z End
-  landing z v End (One c) e on end =
+  landing z v End (Some (One c)) e on end =
       cases (λ (w : ℕ). Steps row v w z End) (is_answer row c) (λ a. inl (number_is row z c e, (a, not-true _ (on a)), code_other row z c e)) (λ a. inr (refl, end a))
-  landing z v End (Two b c) e on end = inr (refl, end refl)
-  landing z v End NoCode e on end = inr (refl, end refl)
+  landing z v End (Some (Two b c)) e on end = inr (refl, end refl)
+  landing z v End None e on end = inr (refl, end refl)
 
-  stands : (x : Encoded) (end : Bool) → lands row x end ≡ true → (has_code row x ≡ true → not_off row x ≡ true) × (has_code row x ≡ false → end ≡ true)
+  stands : (x : Option Encoded) (end : Bool) → lands row x end ≡ true → (has_code row x ≡ true → not_off row x ≡ true) × (has_code row x ≡ false → end ≡ true)
   stands x end e = go (has_code row x) (not_off row x) e
     where
       go : (t u : Bool) → cond t u end ≡ true → (t ≡ true → u ≡ true) × (t ≡ false → end ≡ true)
@@ -225,7 +222,7 @@ module _ (profile : Profile) (command : ℕ) (row : Row) (there : row_of profile
   unfolding content_of
   set v w calculated s =
       rw (well.set_no_word w s) (cases (λ (c : Content). encoded_data (encoded_of row c) ≡ normal row w ∷ [] → value_after row c v ≡ normal row w) (is_leveller_off row w)
-      (λ o e. coded_is (One 0xFF) v (normal row w) e)
+      (λ o e. coded_is (Some (One 0xFF)) v (normal row w) e)
       (λ o e. rw calculated (coded_is (number_code row (number_in row w)) v (normal row w) e))
       (rw (well.set_no_word w s) at says))
     where
@@ -235,19 +232,19 @@ module _ (profile : Profile) (command : ℕ) (row : Row) (there : row_of profile
   unless : (v w : ℕ) → is_answer row v ≡ true → is_answer row w ≡ true → is_answer row (unless_not_calculated row v w) ≡ true
   unless v w a b = cases (λ (x : ℕ). is_answer row x ≡ true) (is_not_calculated row v) (λ e. a) (λ e. b)
 
-  landed_legal : (v : ℕ) (x : Encoded) → is_answer row v ≡ true → is_answer row (landed row x v) ≡ true
-  landed_legal v (One c) a = cases (λ (x : ℕ). is_answer row x ≡ true) (is_answer row c) (λ e. e) (λ e. a)
-  landed_legal v (Two b c) a = a
-  landed_legal v NoCode a = a
+  landed_legal : (v : ℕ) (x : Option Encoded) → is_answer row v ≡ true → is_answer row (landed row x v) ≡ true
+  landed_legal v (Some (One c)) a = cases (λ (x : ℕ). is_answer row x ≡ true) (is_answer row c) (λ e. e) (λ e. a)
+  landed_legal v (Some (Two b c)) a = a
+  landed_legal v None a = a
 
   stepped_legal : (move : ℤ → ℤ) (v : ℕ) → is_answer row v ≡ true → is_answer row (stepped row move v) ≡ true
   stepped_legal move v a =
       cases (λ (x : ℕ). is_answer row x ≡ true) (is_leveller_off row v) (λ e. a) (λ e. landed_legal v (number_code row (move (number_in row v))) a)
 
-  coded_legal : (v : ℕ) (x : Encoded) → code_fits Command row x ≡ true → is_answer row (coded x v) ≡ true
-  coded_legal v (One c) f = well.set_answer c (both (is_setting row c) (not (is_leveller_off row c)) f).0
-  coded_legal v (Two b c) f = clash f
-  coded_legal v NoCode f = clash f
+  coded_legal : (v : ℕ) (x : Option Encoded) → code_fits Command row x ≡ true → is_answer row (coded x v) ≡ true
+  coded_legal v (Some (One c)) f = well.set_answer c (both (is_setting row c) (not (is_leveller_off row c)) f).0
+  coded_legal v (Some (Two b c)) f = clash f
+  coded_legal v None f = clash f
 
   legal : row.pair ≡ false → (v : ℕ) → is_answer row v ≡ true → (c : Content) → is_form Command row c ≡ true → is_answer row (value_after row c v) ≡ true
   legal single v a c form = go c (form_fits profile command row Command c there form)
@@ -265,7 +262,7 @@ module _ (profile : Profile) (command : ℕ) (row : Row) (there : row_of profile
       go (Number z) f = unless v (coded (number_code row z) v) a (coded_legal v (number_code row z) f)
       go (Input i on) f = clash (sym single ∙ (both row.pair (is_answer row i) f).0)
 
-pub house_promise : (profile : Profile) (command : ℕ) (row : Row) (there : row_of profile command ≡ found.Row row) → HousePromise profile command row there
+pub house_promise : (profile : Profile) (command : ℕ) (row : Row) (there : row_of profile command ≡ Some row) → HousePromise profile command row there
 house_promise profile command row there = record {
   up = up profile command row there;
   down = down profile command row there;

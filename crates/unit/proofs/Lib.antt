@@ -1,6 +1,7 @@
 -- Proofs about the unit: its table of trials, the house rules, demand 3, what frames and streams leave true, and computed witnesses.
 pub mod Trials
 mod Tests
+mod Computing
 pub mod Cells
 pub mod Settings
 pub mod Houses

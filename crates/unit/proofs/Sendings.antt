@@ -1,6 +1,6 @@
 -- Demand 3: one sending keeps every setting between its start and the sheet, cut or not; a full one reaches the sheet.
 use mathlib.Core.Path.{◌≡◌, refl, ap, sym, ◌∙◌, subst}
-use mathlib.Core.Bool.{Bool, true, false, cond}
+use mathlib.Core.Bool.{true, false}
 use mathlib.Core.List.{List, [], ◌∷◌, ◌++◌}
 use mathlib.Core.Logic.{◌⊎◌, inl, inr}
 use Prim.Native.Nat.{ℕ, zero, suc, ◌+◌, ◌≤◌, ◌<◌}
@@ -9,6 +9,7 @@ use lib.ListN.{take, replicate}
 use Rattle.frame.specs.Frame.{opens, ends, frame_of}
 use Rattle.frame.specs.Reader.{answer_to, taken_after}
 use Rattle.frame.specs.declared.direction.Direction.TheVariants.{Command}
+use Rattle.frame.proofs.Cases.{cases}
 use Rattle.row.specs.declared.profile.Profile.{Profile}
 use Rattle.lists.specs.InOrder.{in_order}
 use Rattle.sheet.specs.Line.{is_legal, same_cell}
@@ -29,9 +30,23 @@ use Rattle.streams.specs.Stream.{reader_by}
 pub near_more : (j k : ℕ) (taken : List ℕ) → j ≤ k → Within Command j taken → Within Command k taken
 near_more j k taken h w some = omega (arith, w some)
 
+-- zeros bring the reader nearer
+pub zeros_near : (n k : ℕ) (u : Unit) → Within Command (n + k) u.taken → Within Command k (after u (replicate n 0)).taken
+unfolding reader_by
+zeros_near zero k u w = near_more (0 + k) k u.taken (omega arith) w
+zeros_near (suc n) k u w =
+    zeros_near n k (takes u 0) (zero_nearer Command u.taken (n + k) (near_more (suc n + k) (suc (n + k)) u.taken (omega arith) w))
+
 -- a byte that is not 0D only moves the reader
 settings_quiet : (u : Unit) (b : ℕ) → (b ≡ ends → ⊥) → (takes u b).settings ≡ u.settings
 settings_quiet u b other = ap (λ (d : Done). d.settings) (quiet u b other)
+
+-- 21, where it opens a frame
+pub first : (u : Unit) → Within Command 1 u.taken → takes u opens ≡ record { profile = u.profile; taken = opens ∷ []; settings = u.settings }
+first u near =
+    let taken : taken_after Command u.taken opens ≡ opens ∷ [] = opened Command u.taken opens refl near in
+    let same : (takes u opens).settings ≡ u.settings = settings_quiet u opens (λ e. omega arith) in
+    λ i. record { profile = u.profile; taken = taken i; settings = same i }
 
 module _ (profile : Profile) (start want : Settings) where
   abbrev pub Between : Settings → Type 0
@@ -50,48 +65,26 @@ module _ (profile : Profile) (start want : Settings) where
     between = subst Between (sym (settings_quiet u b other)) g.between;
   }
 
-  -- zeros bring the reader nearer
-  record Flushed (u : Unit) (n k : ℕ) : Type 0 where
-    always : Always Good u (replicate n 0)
-    near : Within Command k (after u (replicate n 0)).taken
-
-  flushed : (n k : ℕ) (u : Unit) → Good u → Within Command (n + k) u.taken → Flushed u n k
-  unfolding Always reader_by
-  flushed zero k u g w = record { always = g; near = near_more (0 + k) k u.taken (omega arith) w }
-  flushed (suc n) k u g w =
-      let not_end : 0 ≡ ends → ⊥ = λ e. omega arith in
-      let nearer = zero_nearer Command u.taken (n + k) (near_more (suc n + k) (suc (n + k)) u.taken (omega arith) w) in
-      let rest = flushed n k (takes u 0) (good_quiet u 0 (omega arith) not_end g) nearer in
-      record { always = (g, rest.always); near = rest.near }
+  zeros_good : (n : ℕ) (u : Unit) → Good u → Always Good u (replicate n 0)
+  unfolding Always
+  zeros_good zero u g = g
+  zeros_good (suc n) u g = (g, zeros_good n (takes u 0) (good_quiet u 0 (omega arith) (λ e. omega arith) g))
 
   -- a line that is legal, and wanted
   abbrev pub Wanted : Line → Type 0
   Wanted l = (is_legal profile l ≡ true) × (want (setting_of l) ≡ l.value)
 
   put_between : (l : Line) (s : Settings) → want (setting_of l) ≡ l.value → Between s → Between (put s (setting_of l) l.value)
-  put_between l s e b x = go (same_setting (setting_of l) x) refl
-    where
-      go : (t : Bool) → same_setting (setting_of l) x ≡ t → (cond t l.value (s x) ≡ start x) ⊎ (cond t l.value (s x) ≡ want x)
-      go true f = inr (sym e ∙ ap want (is_cell (setting_of l) x f))
-      go false f = b x
+  put_between l s e b x =
+      cases (λ (v : ℕ). (v ≡ start x) ⊎ (v ≡ want x)) (same_setting (setting_of l) x) (λ f. inr (sym e ∙ ap want (is_cell (setting_of l) x f))) (λ f. b x)
 
   put_keeps : (l : Line) (s : Settings) → want (setting_of l) ≡ l.value → (x : Setting) → s x ≡ want x → put s (setting_of l) l.value x ≡ want x
-  put_keeps l s e x h = go (same_setting (setting_of l) x) refl
-    where
-      go : (t : Bool) → same_setting (setting_of l) x ≡ t → cond t l.value (s x) ≡ want x
-      go true f = sym e ∙ ap want (is_cell (setting_of l) x f)
-      go false f = h
+  put_keeps l s e x h = cases (λ (v : ℕ). v ≡ want x) (same_setting (setting_of l) x) (λ f. sym e ∙ ap want (is_cell (setting_of l) x f)) (λ f. h)
 
   -- one line's frame, from a reader that 21 opens
   module _ (l : Line) (w : Wanted l) (u : Unit) (g : Good u) (near : Within Command 1 u.taken) where
     abbrev opened_unit : List ℕ → Unit
     opened_unit taken = record { profile = u.profile; taken = taken; settings = u.settings }
-
-    first : takes u opens ≡ opened_unit (opens ∷ [])
-    first =
-        let taken : taken_after Command u.taken opens ≡ opens ∷ [] = opened Command u.taken opens refl near in
-        let same : (takes u opens).settings ≡ u.settings = settings_quiet u opens (λ e. omega arith) in
-        λ i. record { profile = u.profile; taken = taken i; settings = same i }
 
     abbrev rest : List ℕ
     rest = l.zone ∷ l.command ∷ 1 ∷ l.value ∷ ends ∷ []
@@ -108,7 +101,7 @@ module _ (profile : Profile) (start want : Settings) where
 
     frame_after : after u (line_frame l) ≡ framed_unit
     unfolding reader_by frame_of answer_to taken_after
-    frame_after = ap (λ (x : Unit). after x rest) first ∙ ap (λ (s : Settings). record { profile = u.profile; taken = []; settings = s }) sets
+    frame_after = ap (λ (x : Unit). after x rest) (first u near) ∙ ap (λ (s : Settings). record { profile = u.profile; taken = []; settings = s }) sets
 
     frame_ended : Good (record { profile = u.profile; taken = []; settings = (frame_done u.profile u.settings (opens ∷ rest)).settings })
     frame_ended = record {
@@ -121,7 +114,7 @@ module _ (profile : Profile) (start want : Settings) where
     unfolding Always frame_of answer_to taken_after
     frame_good = (
       g,
-      subst (λ (x : Unit). Always Good x rest) (sym first) (
+      subst (λ (x : Unit). Always Good x rest) (sym (first u near)) (
         inside (opens ∷ []) (λ some. omega arith),
         (
           inside (opens ∷ l.zone ∷ []) (λ some. omega arith),
@@ -166,14 +159,16 @@ module _ (profile : Profile) (start want : Settings) where
   -- one sending, of at least 255 zeros and the frames
   module _ (zeros : ℕ) (enough : 255 ≤ zeros) (ls : List Line) (w : Each Wanted ls) where
     module _ (u : Unit) (g : Good u) where
-      zeros_sent : Flushed u zeros 1
-      zeros_sent = flushed zeros 1 u g (near_more 256 (zeros + 1) u.taken (omega arith) g.near)
+      zeros_sent : Always Good u (replicate zeros 0)
+      zeros_sent = zeros_good zeros u g
 
       frames_sent : Framed (after u (replicate zeros 0)) ls
-      frames_sent = framed ls w (after u (replicate zeros 0)) (always_last Good u (replicate zeros 0) zeros_sent.always) zeros_sent.near
+      frames_sent =
+          framed ls w (after u (replicate zeros 0)) (always_last Good u (replicate zeros 0) zeros_sent)
+          (zeros_near zeros 1 u (near_more 256 (zeros + 1) u.taken (omega arith) g.near))
 
       pub sent_good : Always Good u (sending zeros ls)
-      sent_good = always_append Good u (replicate zeros 0) (frames_of ls) zeros_sent.always frames_sent.always
+      sent_good = always_append Good u (replicate zeros 0) (frames_of ls) zeros_sent frames_sent.always
 
       sent_all : Each (Reached (after u (sending zeros ls))) ls
       sent_all = subst (λ (x : Unit). Each (Reached x) ls) (sym (after_append u (replicate zeros 0) (frames_of ls))) frames_sent.all
@@ -206,11 +201,8 @@ wanted_own (k ∷ ls) s a =
 
 wanted_other : (ls : List Line) (s : Settings) (x : Setting) → NotOn ls x → wanted ls s x ≡ s x
 wanted_other [] s x n = refl
-wanted_other (l ∷ ls) s x n = go (same_setting (setting_of l) x) refl (wanted_other ls s x n.1)
-  where
-    go : (t : Bool) → same_setting (setting_of l) x ≡ t → wanted ls s x ≡ s x → cond t l.value (wanted ls s x) ≡ s x
-    go true e rest = absurd (n.0 (is_cell (setting_of l) x e))
-    go false e rest = rest
+wanted_other (l ∷ ls) s x n =
+    cases (λ (v : ℕ). v ≡ s x) (same_setting (setting_of l) x) (λ e. absurd (n.0 (is_cell (setting_of l) x e))) (λ e. wanted_other ls s x n.1)
 
 module _ (zeros : ℕ) (enough : 255 ≤ zeros) (profile : Profile) (s : Settings) (before : List ℕ) (ls : List Line) (cuts : List ℕ)
     (bytes : AreBytes before) (legal : Each (λ (l : Line). is_legal profile l ≡ true) ls) (apart : Apart ls) where

@@ -11,16 +11,11 @@ use Rattle.row.specs.MinusZero.{is_minus_zero}
 use Rattle.row.specs.Table.{table, row_of}
 use Rattle.row.specs.declared.profile.Profile.{Profile}
 use Rattle.row.specs.declared.table.Row.{Row}
-use Rattle.row.specs.declared.table.Found.{Found}
-use Rattle.row.specs.declared.table.Found.TheVariants as found
 use Rattle.judging.specs.Judge.{is_setting, row_judged, judged_of}
 use Rattle.message.specs.Content.{content_of}
 use Rattle.message.specs.Message.{read_of}
-use Rattle.judging.specs.declared.judge.Judged.{Judged}
-use Rattle.judging.specs.declared.judge.Judged.TheVariants as judged
 use Rattle.message.specs.declared.content.Content.{Content}
 use Rattle.message.specs.declared.read.Message.TheVariants as message
-use Rattle.message.specs.declared.read.Reading.TheVariants as reading
 use Rattle.judging.proofs.Judges.{judged_lies, judge_legal}
 use Rattle.message.proofs.Readings.{message_legal}
 use Rattle.lists.proofs.Tests.{both}
@@ -35,6 +30,8 @@ use Rattle.unit.specs.UnitPromise.{LinePromise}
 use Rattle.unit.proofs.Tests.{clash, implies, implied}
 use Rattle.unit.proofs.Cells.{cell_self}
 use Rattle.unit.proofs.Houses.{house_promise}
+use Rattle.std.specs.Prelude.{Err, Ok, Option, Result, Some}
+use Rattle.refusals.specs.declared.refusal.Refusal.{Refusal}
 
 -- neither room EQ nor the row of pairs is a sheet row
 abbrev plain : Row → Bool
@@ -47,7 +44,7 @@ all_plain = refl
 -- what makes a line legal
 pub record Line-legal (profile : Profile) (l : Line) : Type 0 where
   pub row : Row
-  pub judged : row_judged profile l.zone l.command ≡ judged.Legal row
+  pub judged : row_judged profile l.zone l.command ≡ Ok row
   pub sheet : row.sheet ≡ true
   pub other : is_minus_zero row l.value ≡ false
   pub setting : is_setting row l.value ≡ true
@@ -56,12 +53,12 @@ pub line_legal : (profile : Profile) (l : Line) → is_legal profile l ≡ true 
 unfolding is_legal
 line_legal profile l e = go (row_judged profile l.zone l.command) refl e
   where
-    go : (j : Judged) → row_judged profile l.zone l.command ≡ j → legal_in j l.value ≡ true → Line-legal profile l
-    go (judged.Legal row) f g =
+    go : (j : Result Row Refusal) → row_judged profile l.zone l.command ≡ j → legal_in j l.value ≡ true → Line-legal profile l
+    go (Ok row) f g =
         let (sheet, rest) = both row.sheet (not (is_minus_zero row l.value) && is_setting row l.value) g in
         let (other, setting) = both (not (is_minus_zero row l.value)) (is_setting row l.value) rest in
         record { row = row; judged = f; sheet = sheet; other = not-true _ other; setting = setting }
-    go (judged.Refused n) f g = clash g
+    go (Err n) f g = clash g
 
 module _ (profile : Profile) (l : Line) (legal : is_legal profile l ≡ true) where
   abbrev w : Line-legal profile l
@@ -70,17 +67,17 @@ module _ (profile : Profile) (l : Line) (legal : is_legal profile l ≡ true) wh
   abbrev row : Row
   row = w.row
 
-  there : row_of profile l.command ≡ found.Row row
+  there : row_of profile l.command ≡ Some row
   there = (judged_lies profile l.zone l.command row w.judged).there
 
   abbrev says : Content
   says = content_of Command row (l.value ∷ [])
 
-  judged_so : judged_of profile Command l.zone l.command (l.value ∷ []) ≡ judged.Legal row
+  judged_so : judged_of profile Command l.zone l.command (l.value ∷ []) ≡ Ok row
   judged_so = judge_legal profile Command l.zone l.command (l.value ∷ []) row w.judged ∙ rw w.setting
 
   -- the frame is read as the command that sets the value
-  pub reads : read_of profile Command l.zone l.command 0 (l.value ∷ []) ≡ reading.Message (message.Command (record { zone = l.zone; command = l.command; content = says }))
+  pub reads : read_of profile Command l.zone l.command 0 (l.value ∷ []) ≡ Ok (message.Command (record { zone = l.zone; command = l.command; content = says }))
   unfolding read_of
   reads = message_legal profile Command l.zone l.command (l.value ∷ []) message.Command row judged_so
 
@@ -108,7 +105,7 @@ module _ (profile : Profile) (l : Line) (legal : is_legal profile l ≡ true) wh
   unfolding frame_done frame_of
   frame_does s =
       ap (done_by profile s l.zone l.command) reads
-      ∙ ap (λ (f : Found). acted_in f s (record { zone = l.zone; command = l.command; content = says })) there
+      ∙ ap (λ (f : Option Row). acted_in f s (record { zone = l.zone; command = l.command; content = says })) there
       ∙ ap (does row s) (about_cell s)
 
   frame_sets : (s : Settings) → (frame_done profile s (line_frame l)).settings ≡ put s (setting_of l) l.value

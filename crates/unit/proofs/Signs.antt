@@ -3,7 +3,7 @@ use mathlib.Core.Path.{◌≡◌, refl, ap, sym, ◌∙◌, subst}
 use mathlib.Core.Bool.{true, false, not, ◌&&◌}
 use mathlib.Core.List.{List, [], ◌∷◌, ◌++◌, append_assoc, append-nil}
 use mathlib.Core.Logic.{◌⊎◌, inl, inr}
-use Prim.Native.Nat.{ℕ, zero, suc, ◌+◌, ◌≤◌}
+use Prim.Native.Nat.{ℕ, ◌+◌, ◌≤◌}
 use native.Mathlib.Omega.{arith}
 use borrow.Author.Tests.{not-true}
 use lib.ListN.{take, replicate}
@@ -22,9 +22,6 @@ use Rattle.sheetfile.specs.Run.{flush, line_frame, frames_of, run_of}
 use Rattle.sheet.specs.declared.line.Line.{Line}
 use Rattle.message.specs.Message.{from_reading, frame_read, read_of}
 use Rattle.message.specs.declared.read.Message.{Message}
-use Rattle.message.specs.declared.read.Reading.{Reading}
-use Rattle.message.specs.declared.read.Reading.TheVariants as reading
-use Rattle.message.specs.declared.read.FrameReading.TheVariants as frame
 use Rattle.tracker.specs.CellPromise.{HasCell}
 use Rattle.tracker.specs.Tracker.{fresh_tracker, kept_in}
 use Rattle.tracker.specs.Feed.{BroughtAnswer, answers_fed}
@@ -40,24 +37,24 @@ use Rattle.tracker.proofs.Keeps.{known_sheet_value}
 use Rattle.signing.proofs.Signs.{its_verdict, sign_promise}
 use Rattle.signing.proofs.CaptureSigns.{short}
 use Rattle.signing.specs.Sign.{sign_off}
-use Rattle.signing.specs.declared.sign.Signed.TheVariants.{Yes}
 use Rattle.sheet.specs.Check.{sheet_verdict}
-use Rattle.sheet.specs.declared.check.Verdict.TheVariants as verdict
 use Rattle.sheet.proofs.Sheets.{sheet_promise}
-use Rattle.unit.specs.Unit.{value, Settings, Unit, compared, Holds, nothing, Done, done, frame_done, takes, after, replies}
+use Rattle.unit.specs.Unit.{value, Settings, Unit, compared, Holds, Done, frame_done, takes, after, replies}
 use Rattle.unit.specs.Legal.{LegalSettings}
 use Rattle.lists.specs.Each.{Each}
 use Rattle.unit.specs.Sending.{AreBytes, setting_of, sending, sendings}
 use Rattle.unit.specs.Demand3.{stopped}
 use Rattle.unit.specs.TruthPromise.{SignedSending}
-use Rattle.unit.proofs.Flush.{Within, opened, zero_nearer, quiet}
+use Rattle.unit.proofs.Flush.{Within, quiet}
 use Rattle.unit.proofs.Moments.{always_last, always_take}
-use Rattle.unit.proofs.Sendings.{near_more, Good, Wanted, sent_good, wanted, start_good, lines}
+use Rattle.unit.proofs.Sendings.{first, zeros_near, near_more, Good, Wanted, sent_good, wanted, start_good, lines}
 use Rattle.unit.proofs.Sets.{Line-legal, line_legal, reads, line_promise}
 use Rattle.unit.proofs.Answers.{answer_reads, done_promise}
 use Rattle.unit.proofs.Truth.{replies_append, brought_append, after_profile, known_true}
 use Rattle.unit.proofs.Demand.{fit, demand_3}
 use Rattle.streams.specs.Stream.{answers_by, reader_by}
+use Rattle.std.specs.Prelude.{Err, Ok, Option, Result, Some}
+use Rattle.refusals.specs.declared.refusal.Refusal.{Refusal}
 
 -- the answer to a legal line's frame
 abbrev answer_of : Line → BroughtAnswer
@@ -71,26 +68,17 @@ module _ (l : Line) (u : Unit) (legal : is_legal u.profile l ≡ true) (near : W
   abbrev rest : List ℕ
   rest = l.zone ∷ l.command ∷ 1 ∷ l.value ∷ ends ∷ []
 
-  opens_quiet : done u opens ≡ nothing u.settings
-  opens_quiet = quiet u opens (λ e. omega arith)
-
-  first : takes u opens ≡ record { profile = u.profile; taken = opens ∷ []; settings = u.settings }
-  first =
-      let taken : taken_after Command u.taken opens ≡ opens ∷ [] = opened Command u.taken opens refl near in
-      let same : (takes u opens).settings ≡ u.settings = ap (λ (d : Done). d.settings) opens_quiet in
-      λ i. record { profile = u.profile; taken = taken i; settings = same i }
-
   line_answers : replies u (line_frame l) ≡ frame_of Answer l.zone l.command 0x00 (l.value ∷ [])
   unfolding answers_by in_order frame_of answer_to taken_after
   line_answers =
-      ap (λ (d : Done). d.answer ++ replies (takes u opens) rest) opens_quiet
-      ∙ ap (λ (x : Unit). replies x rest) first
+      ap (λ (d : Done). d.answer ++ replies (takes u opens) rest) (quiet u opens (λ e. omega arith))
+      ∙ ap (λ (x : Unit). replies x rest) (first u near)
       ∙ append-nil (frame_done u.profile u.settings (opens ∷ rest)).answer
       ∙ (line_promise u.profile u.settings l).answers legal
 
   line_taken : (after u (line_frame l)).taken ≡ []
   unfolding reader_by frame_of answer_to taken_after
-  line_taken = ap (λ (x : Unit). (after x rest).taken) first
+  line_taken = ap (λ (x : Unit). (after x rest).taken) (first u near)
 
 -- the frames of legal lines, from a reader that 21 opens
 frames_answered : (ls : List Line) (u : Unit) → Each (λ (l : Line). is_legal u.profile l ≡ true) ls → Within Command 1 u.taken
@@ -106,12 +94,6 @@ frames_answered (l ∷ ls) u w near =
     ∙ ap (λ (bs : List ℕ). brought_by bs ++ brought_by (replies next (frames_of ls))) (line_answers l u w.0 near)
     ∙ ap (λ (xs : List BroughtAnswer). xs ++ brought_by (replies next (frames_of ls))) (brought_one l.zone l.command 0x00 (l.value ∷ []))
     ∙ ap (λ (xs : List BroughtAnswer). answer_of l ∷ xs) more
-
-zeros_near : (n k : ℕ) (u : Unit) → Within Command (n + k) u.taken → Within Command k (after u (replicate n 0)).taken
-unfolding reader_by
-zeros_near zero k u w = near_more (0 + k) k u.taken (omega arith) w
-zeros_near (suc n) k u w =
-    zeros_near n k (takes u 0) (zero_nearer Command u.taken (n + k) (near_more (suc n + k) (suc (n + k)) u.taken (omega arith) w))
 
 -- what is sent ends with the answers to some lines
 abbrev Ends : List Line → Unit → List ℕ → Type 0
@@ -159,12 +141,12 @@ none_behind : (profile : Profile) (zone command : ℕ) (xs ys : List BroughtAnsw
 none_behind profile zone command [] ys n = n
 none_behind profile zone command (x ∷ xs) ys n = none_behind profile zone command xs ys n.1
 
-message_same : (r : Reading) (m : Message) → from_reading r ≡ frame.Message m → r ≡ reading.Message m
-message_same (reading.Message x) m e = ap reading.Message (same e)
+message_same : (r : Result Message Refusal) (m : Message) → from_reading r ≡ Some (Ok m) → r ≡ Ok m
+message_same (Ok x) m e = ap Ok (same e)
   where
-    same : frame.Message x ≡ frame.Message m → x ≡ m
+    same : ◌≡◌ {A = Option (Result Message Refusal)} (Some (Ok x)) (Some (Ok m)) → x ≡ m
     same f = cc
-message_same (reading.Refused n) m e = let z : ◌≡◌ {A = ℕ} 0 1 = cc in absurd (omega arith)
+message_same (Err n) m e = cc
 
 -- the answer to a legal line is a status of its zone and row
 line_status : (profile : Profile) (s : Settings) → LegalSettings profile s → (l : Line) → is_legal profile l ≡ true → IsStatus profile l.zone l.command (answer_of l)
@@ -224,8 +206,8 @@ module _ (t : Tracker) (now : Unit) (family : t.profile ≡ now.profile) (true_n
   all_hold_lem (l ∷ ls) legal k h = (one_holds l legal.0 k.0.0 k.0.1 h.0, all_hold_lem ls legal.1 k.1 h.1)
 
 signs_full : (profile : Profile) (s : Settings) (before : List ℕ) (sheet : List Line) (cuts : List ℕ)
-    → LegalSettings profile s → AreBytes before → sheet_verdict profile sheet ≡ verdict.Accepted
-    → sign_off (tracked_by profile (replies (stopped profile s before) (sendings cuts (run_of sheet)))) sheet ≡ Yes
+    → LegalSettings profile s → AreBytes before → sheet_verdict profile sheet ≡ Ok tt
+    → sign_off (tracked_by profile (replies (stopped profile s before) (sendings cuts (run_of sheet)))) sheet ≡ Ok true
 signs_full profile s before sheet cuts legal bytes accepted =
     let f = fit profile [] sheet ((sheet_promise profile sheet).only accepted).1 in
     let u = stopped profile s before in

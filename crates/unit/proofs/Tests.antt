@@ -1,11 +1,9 @@
 -- What tests joined say of each.
 use mathlib.Core.Path.{◌≡◌, refl}
 use mathlib.Core.Bool.{Bool, true, false, cond, ◌||◌}
-use Prim.Native.Nat.{ℕ}
-use native.Mathlib.Omega.{arith}
 
 pub clash : {P : Type 0} → false ≡ true → P
-clash e = let z : ◌≡◌ {A = ℕ} 0 1 = cc in absurd (omega arith)
+clash e = cc
 
 pub none_of : (a b c d : Bool) → a || (b || (c || d)) ≡ false → (a ≡ false) × (b ≡ false) × (c ≡ false) × (d ≡ false)
 none_of false false false false e = (refl, refl, refl, refl)

@@ -4,10 +4,8 @@ use mathlib.Core.Bool.{Bool, true, false, cond, ◌&&◌}
 use mathlib.Core.List.{List, [], ◌∷◌, ◌++◌, map, append_assoc}
 use mathlib.Core.Logic.{◌⊎◌, inl, inr}
 use Prim.Native.Nat.{ℕ}
-use native.Mathlib.Omega.{arith}
 use borrow.Author.Tests.{eqb-true, eqb-false}
 use lib.Dec.{eqb}
-use lib.ListN.{length}
 use Rattle.frame.specs.Frame.{frame_of}
 use Rattle.fields.specs.Fields.{data_in}
 use Rattle.frame.specs.declared.direction.Direction.TheVariants.{Command, Answer}
@@ -20,7 +18,6 @@ use Rattle.message.specs.Content.{content_of}
 use Rattle.message.specs.Message.{said, read_of, data_read}
 use Rattle.message.specs.declared.read.Said.{Said}
 use Rattle.message.specs.declared.read.Message.TheVariants as message
-use Rattle.message.specs.declared.read.Reading.TheVariants as reading
 use Rattle.sheet.specs.declared.line.Line.{Line}
 use Rattle.tracker.specs.CellPromise.{HasCell}
 use Rattle.tracker.specs.Tracker.{fresh_tracker, kept_in}
@@ -31,7 +28,6 @@ use Rattle.tracker.specs.Capture.{brought_by, tracked_by}
 use Rattle.signing.specs.SignPromise.{IsHeld}
 use Rattle.tracker.specs.declared.tracker.Tracker.{Tracker}
 use Rattle.tracker.specs.declared.tracker.Kept.TheVariants as kept
-use Rattle.signing.specs.declared.sign.Signed.TheVariants.{Yes}
 use Rattle.tracker.proofs.Cells.{cell_or_none}
 use Rattle.tracker.proofs.Keeps.{none_kept}
 use Rattle.tracker.proofs.Feeds.{feed_promise}
@@ -53,6 +49,8 @@ use Rattle.streams.specs.Stream.{answers_by, reader_by}
 use Rattle.lists.specs.InOrder.{in_order, joined}
 use Rattle.streams.proofs.Cut.{answers_append}
 use Rattle.lists.proofs.InOrder.{in_order_append}
+use Rattle.std.specs.Prelude.{Ok}
+use Rattle.refusals.specs.declared.refusal.Refusal.{Refusal}
 
 -- answers that stand before others bring what they bring alone
 abbrev Splits : List ℕ → Type 0
@@ -99,15 +97,15 @@ one_same : (a b : ℕ) → ◌≡◌ {A = List ℕ} (a ∷ []) (b ∷ []) → a 
 one_same a b e = cc
 
 two_not : (a b c : ℕ) → ◌≡◌ {A = List ℕ} (a ∷ b ∷ []) (c ∷ []) → ⊥
-two_not a b c e = let n : ◌≡◌ {A = ℕ} 2 1 = ap (λ (xs : List ℕ). length xs) e in omega arith
+two_not a b c e = cc
 
 no_cell_not : (b : ℕ) → kept.NoCell ≡ kept.Value b → ⊥
-no_cell_not b e = let z : ◌≡◌ {A = ℕ} 0 1 = cc in omega arith
+no_cell_not b e = cc
 
 -- an answer that shows one cell, which is its row's or an input's, and the settings in which that cell alone may differ
 module _ (profile : Profile) (t : Tracker) (fit : Fit profile t) (s : Settings) (true_before : True profile t s) (z k : ℕ) (x : Setting) (v : ℕ)
     (which : (x ≡ value z k) ⊎ ((i : ℕ) × (x ≡ input i))) (said : Said)
-    (reads : read_of profile Answer z k 0x00 (shown x (put s x v x)) ≡ reading.Message (message.Status said)) where
+    (reads : read_of profile Answer z k 0x00 (shown x (put s x v x)) ≡ Ok (message.Status said)) where
   abbrev next : Tracker
   next = (answer_fed t z k 0x00 (shown x (put s x v x))).tracker
 
@@ -183,7 +181,7 @@ module _ (profile : Profile) (s : Settings) (legal : LegalSettings profile s) (t
   unfolding answers_fed
   one_fed zone command ac body = ap (answers_fed t) (brought_one zone command ac body)
 
-  refused_true : (n : ℕ) → Heard (refused s (zone_in bytes) (command_in bytes) n)
+  refused_true : (n : Refusal) → Heard (refused s (zone_in bytes) (command_in bytes) n)
   refused_true n =
       let z = zone_in bytes in
       let k = command_in bytes in
@@ -225,7 +223,7 @@ unfolding answers_fed
 fresh_true profile s zone command b e = go (cell_or_none profile zone command)
   where
     unknown_not : kept.Unknown ≡ kept.Value b → ⊥
-    unknown_not f = let z : ◌≡◌ {A = ℕ} 0 1 = cc in omega arith
+    unknown_not f = cc
 
     go : ((row : Row) × HasCell profile zone command row) ⊎ ((row : Row) → HasCell profile zone command row → ⊥)
         → compared profile (value zone command) (s (value zone command)) ≡ compared profile (value zone command) b
@@ -252,7 +250,7 @@ truth_promise u sent = record {
       signed legal ls (sym (short u.profile ls (replies u sent) w.0) ∙ e);
 }
   where
-    signed : LegalSettings u.profile u.settings → (ls : List Line) → sign_off (tracked_by u.profile (replies u sent)) ls ≡ Yes
+    signed : LegalSettings u.profile u.settings → (ls : List Line) → sign_off (tracked_by u.profile (replies u sent)) ls ≡ Ok true
         → Each (λ (l : Line). Holds (after u sent) (sending.setting_of l) l.value) ls
     signed legal ls e =
         let t = tracked_by u.profile (replies u sent) in

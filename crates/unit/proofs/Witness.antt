@@ -7,33 +7,27 @@ use Prim.Native.Nat.{ℕ}
 use native.Mathlib.Omega.{arith}
 use lib.Dec.{eqb}
 use lib.ListN.{take, replicate}
-use Rattle.frame.specs.Frame.{frame_of}
-use Rattle.frame.specs.Reader.{answer_to, taken_after}
-use Rattle.row.specs.Signed.{number_of, code_of, plain_code_of}
-use Rattle.row.specs.Table.{table, first_row}
+use Rattle.row.specs.Table.{table}
 use Rattle.row.specs.declared.profile.Profile.{Profile}
 use Rattle.row.specs.declared.profile.Profile.TheVariants.{A}
 use Rattle.row.specs.declared.table.Row.{Row}
 use Rattle.judging.specs.Judge.{is_answer}
-use Rattle.message.specs.Content.{content_of}
-use Rattle.message.specs.Message.{read_of}
 use Rattle.message.proofs.Tidy.{every, row_passes}
-use Rattle.lists.specs.InOrder.{in_order}
 use Rattle.sheetfile.specs.Run.{run_of}
 use Rattle.sheetfile.proofs.Witness.{fifteen, fifteen_accepted}
 use Rattle.sheet.specs.declared.line.Line.{Line}
-use Rattle.unit.specs.Unit.{Setting, value, input, current, same_setting, Unit, Holds, frame_done, after}
+use Rattle.unit.specs.Unit.{Setting, value, input, current, same_setting, Unit, Holds, after}
 use Rattle.unit.specs.Legal.{LegalSettings, RowIn}
 use Rattle.unit.specs.SettingsPromise.{SomeLegalPromise}
 use Rattle.unit.specs.Sending.{setting_of, NotOn, sendings}
 use Rattle.unit.specs.UnitTablePromise.{zero_settings}
 use Rattle.unit.specs.Demand3.{stopped, moment, Promised}
 use Rattle.lists.proofs.Tests.{both}
+use Rattle.unit.proofs.Computing.{running}
 use Rattle.unit.proofs.Cells.{cell_self}
 use Rattle.unit.proofs.Tests.{clash}
 use Rattle.judging.proofs.Judges.{judged_lies}
 use Rattle.unit.proofs.Demand.{demand_3}
-use Rattle.streams.specs.Stream.{reader_by}
 
 -- 00 in every row, and input 01, are legal in both profiles
 abbrev zero_fits : Row → Bool
@@ -80,29 +74,29 @@ applied =
 
 -- what it says, computed beside it: at the first cut three lines are set and the reader stands inside the fourth's frame
 pub pulled : map (λ (l : Line). (moment start sent 276).settings (setting_of l)) fifteen ≡ 0x02 ∷ 0x01 ∷ 0x02 ∷ replicate 12 0x00
-unfolding run_of in_order reader_by frame_done frame_of answer_to taken_after read_of content_of first_row table number_of code_of plain_code_of
+unfolding running
 pulled = refl
 
 pub pulled_inside : (moment start sent 276).taken ≡ 0x21 ∷ 0x01 ∷ 0x39 ∷ []
-unfolding run_of in_order reader_by frame_done frame_of answer_to taken_after read_of content_of first_row table number_of code_of plain_code_of
+unfolding running
 pulled_inside = refl
 
 -- at the second all but the last, and the reader stands inside the last frame
 pub pulled_last : map (λ (l : Line). (moment start sent 618).settings (setting_of l)) fifteen ≡ take 14 (map (λ (l : Line). l.value) fifteen) ++ 0x00 ∷ []
-unfolding run_of in_order reader_by frame_done frame_of answer_to taken_after read_of content_of first_row table number_of code_of plain_code_of
+unfolding running
 pulled_last = refl
 
 pub pulled_inside_last : (moment start sent 618).taken ≡ 0x21 ∷ 0x03 ∷ 0x46 ∷ []
-unfolding run_of in_order reader_by frame_done frame_of answer_to taken_after read_of content_of first_row table number_of code_of plain_code_of
+unfolding running
 pulled_inside_last = refl
 
 -- the third sending, cut inside its flush, has added nothing; at the end all are set
 pub pulled_again : map (λ (l : Line). (moment start sent 718).settings (setting_of l)) fifteen ≡ take 14 (map (λ (l : Line). l.value) fifteen) ++ 0x00 ∷ []
-unfolding run_of in_order reader_by frame_done frame_of answer_to taken_after read_of content_of first_row table number_of code_of plain_code_of
+unfolding running
 pulled_again = refl
 
 pub reached : map (λ (l : Line). (after start sent).settings (setting_of l)) fifteen ≡ map (λ (l : Line). l.value) fifteen
-unfolding run_of in_order reader_by frame_done frame_of answer_to taken_after read_of content_of first_row table number_of code_of plain_code_of
+unfolding running
 reached = refl
 
 -- settings that are not on the sheet, a row's, an input's and the current input, at every moment

@@ -5,24 +5,15 @@ use mathlib.Core.Bool.{true}
 use mathlib.Core.List.{List, [], ◌∷◌, ◌++◌, map}
 use Prim.Native.Nat.{ℕ}
 use Rattle.lists.specs.Each.{Each}
-use Rattle.lists.specs.InOrder.{in_order}
-use Rattle.streams.specs.Stream.{answers_by, reader_by}
 use Rattle.lent.specs.Placed.{bytes_at}
-use Rattle.frame.specs.Frame.{frame_of}
-use Rattle.frame.specs.Reader.{answer_to, taken_after}
 use Rattle.frame.specs.Capture.{events_told, events_from}
 use Rattle.fields.specs.Fields.{is_frame}
-use Rattle.row.specs.Signed.{number_of, code_of, plain_code_of}
 use Rattle.row.specs.Table.{table, first_row}
 use Rattle.row.specs.declared.profile.Profile.TheVariants.{A}
 use Rattle.row.specs.declared.table.Row.{Row}
 use Rattle.judging.specs.Judge.{is_answer, row_judged}
-use Rattle.message.specs.Content.{content_of}
-use Rattle.message.specs.Message.{read_of}
-use Rattle.sheet.specs.Line.{is_legal, is_repeated}
-use Rattle.sheet.specs.Check.{lowest_fault, sheet_verdict}
+use Rattle.sheet.specs.Check.{sheet_verdict}
 use Rattle.sheet.specs.declared.line.Line.{Line}
-use Rattle.sheet.specs.declared.check.Verdict.TheVariants.{Accepted}
 use Rattle.sheetfile.specs.Run.{run_of}
 use Rattle.sheetfile.proofs.Witness.{line}
 use Rattle.tracker.specs.Tracker.{kept_in}
@@ -30,16 +21,26 @@ use Rattle.tracker.specs.Feed.{answers_fed}
 use Rattle.tracker.specs.Capture.{tracked_by}
 use Rattle.tracker.specs.declared.tracker.Kept.TheVariants.{Value}
 use Rattle.signing.specs.Sign.{all_hold, sign_off}
-use Rattle.signing.specs.declared.sign.Signed.TheVariants.{Yes}
-use Rattle.unit.specs.Unit.{value, Settings, put, Unit, Holds, frame_done, after, replies}
+use Rattle.unit.specs.Unit.{value, Settings, put, Unit, Holds, after, replies}
 use Rattle.unit.specs.Legal.{LegalSettings, RowIn}
 use Rattle.unit.specs.Sending.{setting_of, sendings}
 use Rattle.unit.specs.UnitTablePromise.{zero_settings, says, tells}
 use Rattle.unit.specs.Demand3.{stopped, moment, Promised}
+use Rattle.unit.proofs.Computing.{running, checking}
 use Rattle.unit.proofs.Settings.{legal_promise}
 use Rattle.unit.proofs.Demand.{demand_3}
 use Rattle.unit.proofs.Truth.{truth_promise}
 use Rattle.unit.proofs.Witness.{zeros_legal}
+use Rattle.std.specs.Prelude.{Ok}
+
+-- what a tracker knows that was fed with a unit's answers, and what is signed off by it
+unfoldable feeding : ℕ
+unfolding running row_judged answers_fed kept_in events_told events_from bytes_at is_frame
+feeding = 0
+
+unfoldable signing : ℕ
+unfolding feeding checking all_hold
+signing = 0
 
 -- 80 in the offset, the sub trim and the brightness of zone 1
 abbrev with80 : Settings → ℕ → Settings
@@ -69,7 +70,7 @@ abbrev asks : List ℕ
 asks = says 0x3A 0xF0 ++ says 0x45 0xF0 ++ says 0x46 0xF0
 
 abbrev Signed : List ℕ → List Line → Type 0
-Signed sent ls = sign_off (tracked_by A (replies holder sent)) ls ≡ Yes
+Signed sent ls = sign_off (tracked_by A (replies holder sent)) ls ≡ Ok true
 
 -- before a run: the unit is at the sheet, tells 80 in each row, is known by 00, and is signed off
 pub at_sheet : Each (λ (l : Line). Holds holder (setting_of l) l.value) zeros
@@ -77,15 +78,15 @@ unfolding first_row table
 at_sheet = (refl, (refl, (refl, tt)))
 
 pub told : replies holder asks ≡ tells 0x3A 0x80 ++ tells 0x45 0x80 ++ tells 0x46 0x80
-unfolding answers_by in_order reader_by frame_done frame_of answer_to taken_after read_of content_of first_row table number_of code_of plain_code_of
+unfolding running
 told = refl
 
 pub known : map (λ (l : Line). kept_in (tracked_by A (replies holder asks)) l.zone l.command) zeros ≡ Value 0x00 ∷ Value 0x00 ∷ Value 0x00 ∷ []
-unfolding answers_fed kept_in row_judged events_told events_from bytes_at is_frame answers_by in_order reader_by frame_done frame_of answer_to taken_after read_of content_of first_row table number_of code_of plain_code_of
+unfolding feeding
 known = refl
 
 pub signed : Signed asks zeros
-unfolding all_hold sheet_verdict lowest_fault is_legal is_repeated answers_fed kept_in row_judged events_told events_from bytes_at is_frame answers_by in_order reader_by frame_done frame_of answer_to taken_after read_of content_of first_row table number_of code_of plain_code_of
+unfolding signing
 signed = refl
 
 -- and what the truth of known cells says of it: 80 is held, and 00 is true of it
@@ -100,32 +101,32 @@ abbrev sent : List ℕ
 sent = sendings (265 ∷ []) (run_of beside)
 
 pub still : map (λ (l : Line). (after holder sent).settings (setting_of l)) zeros ≡ 0x80 ∷ 0x80 ∷ 0x80 ∷ []
-unfolding run_of in_order reader_by frame_done frame_of answer_to taken_after read_of content_of first_row table number_of code_of plain_code_of
+unfolding running
 still = refl
 
 pub signed_after_lem : Signed (sent ++ asks) (zeros ++ beside)
-unfolding run_of all_hold sheet_verdict lowest_fault is_legal is_repeated answers_fed kept_in row_judged events_told events_from bytes_at is_frame answers_by in_order reader_by frame_done frame_of answer_to taken_after read_of content_of first_row table number_of code_of plain_code_of
+unfolding signing
 signed_after_lem = refl
 
 -- the run of the sheet itself, cut inside its second frame: demand 3 holds of it, with 80 beside 00 at the cut, and 00 at the end
 abbrev run : List ℕ
 run = sendings (265 ∷ []) (run_of zeros)
 
-accepted : sheet_verdict A zeros ≡ Accepted
-unfolding sheet_verdict lowest_fault is_legal is_repeated row_judged first_row table
+accepted : sheet_verdict A zeros ≡ Ok tt
+unfolding checking
 accepted = refl
 
 pub applied : Promised holder zeros run
 applied = demand_3.holds A minus_zeros [] zeros (265 ∷ []) tt accepted
 
 pub pulled : map (λ (l : Line). (moment holder run 265).settings (setting_of l)) zeros ≡ 0x00 ∷ 0x80 ∷ 0x80 ∷ []
-unfolding run_of in_order reader_by frame_done frame_of answer_to taken_after read_of content_of first_row table number_of code_of plain_code_of
+unfolding running
 pulled = refl
 
 pub reached : map (λ (l : Line). (after holder run).settings (setting_of l)) zeros ≡ 0x00 ∷ 0x00 ∷ 0x00 ∷ []
-unfolding run_of in_order reader_by frame_done frame_of answer_to taken_after read_of content_of first_row table number_of code_of plain_code_of
+unfolding running
 reached = refl
 
 pub signed_run : Signed run zeros
-unfolding run_of all_hold sheet_verdict lowest_fault is_legal is_repeated answers_fed kept_in row_judged events_told events_from bytes_at is_frame answers_by in_order reader_by frame_done frame_of answer_to taken_after read_of content_of first_row table number_of code_of plain_code_of
+unfolding signing
 signed_run = refl

@@ -3,14 +3,13 @@
 -- once in full. If the bytes sent arrive in order and unchanged and nothing else touches the unit, then at every moment each setting on
 -- the sheet holds its starting value or the sheet's, every other setting is as it was, and after the full sending all those on the sheet
 -- hold the sheet's values."
-use Rattle.std.specs.Prelude.{ℕ, ◌≡◌, List, [], ◌⊎◌, take}
+use Rattle.std.specs.Prelude.{ℕ, ◌≡◌, List, [], ◌⊎◌, take, Ok}
 use Rattle.frame.specs.Reader.{taken_by}
 use Rattle.frame.specs.declared.direction.Direction.TheVariants.{Command}
 use Rattle.row.specs.declared.profile.Profile.{Profile}
 use Rattle.sheet.specs.Check.{sheet_verdict}
 use Rattle.sheetfile.specs.Run.{run_of}
 use Rattle.sheet.specs.declared.line.Line.{Line}
-use Rattle.sheet.specs.declared.check.Verdict.TheVariants.{Accepted}
 use Rattle.unit.specs.Unit.{Setting, Settings, Unit, Holds, after}
 use Rattle.lists.specs.Each.{Each}
 use Rattle.unit.specs.Sending.{AreBytes, setting_of, NotOn, sendings}
@@ -36,5 +35,5 @@ pub record Promised (u : Unit) (ls : List Line) (bytes : List ℕ) : Type 0 wher
 -- "at any legal settings": at any settings at all
 pub record Demand3 : Type 0 where
   pub holds : (profile : Profile) (s : Settings) (before : List ℕ) (sheet : List Line) (cuts : List ℕ)
-      → AreBytes before → sheet_verdict profile sheet ≡ Accepted
+      → AreBytes before → sheet_verdict profile sheet ≡ Ok tt
       → Promised (stopped profile s before) sheet (sendings cuts (run_of sheet))

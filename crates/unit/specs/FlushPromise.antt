@@ -1,10 +1,9 @@
 -- Promise: how many zeros a run needs. Document 02, C-20: "The first line's 21 may itself fall on the end place, so prove and send: 255
 -- zeros for a sheet with at least one line"; "Prove too that 254 don't suffice, by a unit and a one-line sheet for which demand 3 fails."
-use Rattle.std.specs.Prelude.{ℕ, ◌≤◌, ◌≡◌, List, [], ◌∷◌, ◌++◌, replicate}
+use Rattle.std.specs.Prelude.{ℕ, ◌≤◌, ◌≡◌, List, [], ◌∷◌, ◌++◌, replicate, Ok}
 use Rattle.row.specs.declared.profile.Profile.TheVariants.{A}
 use Rattle.sheet.specs.Check.{sheet_verdict}
 use Rattle.sheet.specs.declared.line.Line.{Line}
-use Rattle.sheet.specs.declared.check.Verdict.TheVariants.{Accepted}
 use Rattle.sheetfile.specs.Run.{run_of}
 use Rattle.unit.specs.Unit.{Unit, Holds, after, replies}
 use Rattle.unit.specs.Legal.{LegalSettings}
@@ -32,7 +31,7 @@ pub record TooFewPromise : Type 0 where
   -- demand 3 speaks of them: "at any legal settings", what came before is bytes, "one accepted sheet of its family"
   pub legal : LegalSettings A zero_settings
   pub bytes : AreBytes old_bytes
-  pub accepted : sheet_verdict A (one_line ∷ []) ≡ Accepted
+  pub accepted : sheet_verdict A (one_line ∷ []) ≡ Ok tt
   -- the line's 21 is taken for the last byte of the old data, its zone breaks the old frame at the end place, and nothing is ever answered
   pub taken : (moment stuck short_sending 255).taken ≡ old_bytes ++ replicate 254 0x00 ++ 0x21 ∷ []
   pub broken : (moment stuck short_sending 256).taken ≡ []

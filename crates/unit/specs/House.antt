@@ -1,5 +1,5 @@
 -- Document 01, 'The unit': what a command makes of its row's value.
-use Rattle.std.specs.Prelude.{ℕ, Bool, cond, ◌&&◌, eqb, ℤ}
+use Rattle.std.specs.Prelude.{ℕ, Bool, cond, ◌&&◌, eqb, ℤ, Option, Some, None}
 use Rattle.std.proofs.Math.IntN.{suc_ℤ, pred_ℤ}
 use Rattle.row.specs.Profile.{letter_of}
 use Rattle.row.specs.declared.profile.Profile.TheVariants.{A}
@@ -9,7 +9,7 @@ use Rattle.message.specs.Content.{is_leveller_off, number_in, number_code}
 use Rattle.message.specs.declared.content.Content.{Content}
 use Rattle.message.specs.declared.content.Content.TheVariants.{Request, Up, Down, On, Off, Toggle, LevellerOff, Number, Input}
 use Rattle.message.specs.declared.content.Encoded.{Encoded}
-use Rattle.message.specs.declared.content.Encoded.TheVariants.{One, Two, NoCode}
+use Rattle.message.specs.declared.content.Encoded.TheVariants.{One, Two}
 
 -- "A 37 room EQ: .. 02 not calculated"; "S 37 room EQ: .. A0 not calculated"
 abbrev pub is_not_calculated : Row → ℕ → Bool
@@ -20,20 +20,20 @@ abbrev pub unless_not_calculated : Row → ℕ → ℕ → ℕ
 unless_not_calculated row v w = cond (is_not_calculated row v) v w
 
 -- "a step past either end leaves the value": where the number that it moves to has no code among the row's answers
-abbrev pub landed : Row → Encoded → ℕ → ℕ
-landed row (One c) v = cond (is_answer row c) c v
-landed row (Two b c) v = v
-landed row NoCode v = v
+abbrev pub landed : Row → Option Encoded → ℕ → ℕ
+landed row (Some (One c)) v = cond (is_answer row c) c v
+landed row (Some (Two b c)) v = v
+landed row None v = v
 
 -- "A step moves the value by one, in signed rows the signed value (up from 81 is 00)."; "Leveller off stays off under steps"
 abbrev pub stepped : Row → (ℤ → ℤ) → ℕ → ℕ
 stepped row move v = cond (is_leveller_off row v) v (landed row (number_code row (move (number_in row v))) v)
 
 -- a number that is set is set as its code
-abbrev pub coded : Encoded → ℕ → ℕ
-coded (One c) v = c
-coded (Two b c) v = v
-coded NoCode v = v
+abbrev pub coded : Option Encoded → ℕ → ℕ
+coded (Some (One c)) v = c
+coded (Some (Two b c)) v = v
+coded None v = v
 
 -- the value after a command, by what the command says and the value before
 abbrev pub value_after : Row → Content → ℕ → ℕ

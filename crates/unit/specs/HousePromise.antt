@@ -1,12 +1,11 @@
 -- Promise: the house rules, over any row of a profile and in document 01's words.
-use Rattle.std.specs.Prelude.{ℕ, ◌≡◌, true, false, [], ◌∷◌, ◌⊎◌, ℤ, ◌≤ℤ◌}
+use Rattle.std.specs.Prelude.{ℕ, ◌≡◌, true, false, [], ◌∷◌, ◌⊎◌, ℤ, ◌≤ℤ◌, Some}
 use Rattle.std.proofs.Math.IntN.{suc_ℤ, pred_ℤ}
 use Rattle.frame.specs.declared.direction.Direction.TheVariants.{Command}
 use Rattle.row.specs.MinusZero.{is_minus_zero, normal}
 use Rattle.row.specs.Table.{row_of}
 use Rattle.row.specs.declared.profile.Profile.{Profile}
 use Rattle.row.specs.declared.table.Row.{Row}
-use Rattle.row.specs.declared.table.Found.TheVariants as found
 use Rattle.judging.specs.Judge.{is_setting, is_answer}
 use Rattle.message.specs.Content.{is_leveller_off, number_in, content_of, is_form}
 use Rattle.message.specs.declared.content.Content.{Content}
@@ -28,7 +27,7 @@ Lowest row v = (w : ℕ) → IsNumber row w → number_in row v ≤ℤ number_in
 abbrev pub Steps : Row → ℕ → ℕ → ℤ → Type 0 → Type 0
 Steps row v w next End = ((number_in row w ≡ next) × IsNumber row w × (is_minus_zero row w ≡ false)) ⊎ ((w ≡ v) × End)
 
-pub record HousePromise (profile : Profile) (command : ℕ) (row : Row) (there : row_of profile command ≡ found.Row row) : Type 0 where
+pub record HousePromise (profile : Profile) (command : ℕ) (row : Row) (there : row_of profile command ≡ Some row) : Type 0 where
   -- "A step moves the value by one, in signed rows the signed value"; "a step past either end leaves the value"
   pub up : row.steps ≡ true → (v : ℕ) → IsNumber row v → Steps row v (value_after row Up v) (suc_ℤ (number_in row v)) (Highest row v)
   pub down : row.steps ≡ true → (v : ℕ) → IsNumber row v → Steps row v (value_after row Down v) (pred_ℤ (number_in row v)) (Lowest row v)

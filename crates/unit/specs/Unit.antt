@@ -1,5 +1,5 @@
 -- Document 01, 'The unit': its settings, and what each byte does to it. Document 02, C-14: "the unit takes 80 as 00".
-use Rattle.std.specs.Prelude.{ℕ, ◌≡◌, Bool, true, false, cond, ◌&&◌, List, [], ◌∷◌, ◌++◌, eqb}
+use Rattle.std.specs.Prelude.{ℕ, ◌≡◌, Bool, true, false, cond, ◌&&◌, List, [], ◌∷◌, ◌++◌, eqb, Err, None, Ok, Option, Result, Some}
 use Rattle.streams.specs.Stream.{answers_by, reader_by}
 use Rattle.lists.specs.InOrder.{joined}
 use Rattle.frame.specs.Frame.{frame_of}
@@ -12,18 +12,17 @@ use Rattle.row.specs.MinusZero.{normal_in}
 use Rattle.row.specs.Table.{row_of}
 use Rattle.row.specs.declared.profile.Profile.{Profile}
 use Rattle.row.specs.declared.table.Row.{Row}
-use Rattle.row.specs.declared.table.Found.{Found}
-use Rattle.row.specs.declared.table.Found.TheVariants as found
 use Rattle.message.specs.Content.{encoded_of}
 use Rattle.message.specs.Message.{read_of}
 use Rattle.message.specs.declared.content.Content.{Content}
 use Rattle.message.specs.declared.content.Encoded.{Encoded}
-use Rattle.message.specs.declared.content.Encoded.TheVariants.{One, Two, NoCode}
+use Rattle.message.specs.declared.content.Encoded.TheVariants.{One, Two}
 use Rattle.message.specs.declared.read.Said.{Said}
 use Rattle.message.specs.declared.read.Message.TheVariants as message
-use Rattle.message.specs.declared.read.Reading.{Reading}
-use Rattle.message.specs.declared.read.Reading.TheVariants as reading
 use Rattle.unit.specs.House.{value_after}
+use Rattle.refusals.specs.declared.refusal.Refusal.{Refusal}
+use Rattle.refusals.specs.declared.refusal.Refusal.TheVariants.{WrongZone, NoRow, WrongLength}
+use Rattle.message.specs.declared.read.Message.{Message}
 
 -- what a unit has a value for: a zone and a row, which its command names; "S 0F: a value per input and a current input"
 pub data Setting : Type 0 where
@@ -68,10 +67,10 @@ Holds u x v = compared u.profile x (u.settings x) ≡ compared u.profile x v
 
 -- the cell that a command is about: its row's value in its zone; "For S 0F a request answers for the current input, a setting for the
 -- named one", and two bytes of data name one
-abbrev pub named : Encoded → ℕ → ℕ
-named (One b) now = now
-named (Two i on) now = i
-named NoCode now = now
+abbrev pub named : Option Encoded → ℕ → ℕ
+named (Some (One b)) now = now
+named (Some (Two i on)) now = i
+named None now = now
 
 abbrev pub about : Row → Settings → ℕ → ℕ → Content → Setting
 about row s zone command c = cond row.pair (input (named (encoded_of row c) (s current))) (value zone command)
@@ -98,24 +97,27 @@ acted row s said =
     record { settings = set; answer = frame_of Answer said.zone said.command 0x00 (shown x (set x)) }
 
 -- "A refused frame changes nothing and is answered with Ac 82, 83, 86, 84 for 1, 2, 3, 4, its zone and command, Dl 0."; document 02,
--- C-11: "The unit answers Ac 84 for both", 4 and 13; a command gets no other number (`ToldDenial`)
-abbrev pub refusal_code : ℕ → ℕ
-refusal_code n = cond (eqb n 1) 0x82 (cond (eqb n 2) 0x83 (cond (eqb n 3) 0x86 0x84))
+-- C-11: "The unit answers Ac 84 for both", 4 and 13; a command gets no other number (`ToldDenial`), so all others are 84 here
+abbrev pub refusal_code : Refusal → ℕ
+refusal_code WrongZone = 0x82
+refusal_code NoRow = 0x83
+refusal_code WrongLength = 0x86
+refusal_code _ = 0x84
 
-abbrev pub refused : Settings → ℕ → ℕ → ℕ → Done
-refused s zone command n = record { settings = s; answer = frame_of Answer zone command (refusal_code n) [] }
+abbrev pub refused : Settings → ℕ → ℕ → Refusal → Done
+refused s zone command e = record { settings = s; answer = frame_of Answer zone command (refusal_code e) [] }
 
 -- in the row that was found; no command is read without one
-abbrev pub acted_in : Found → Settings → Said → Done
-acted_in (found.Row row) s said = acted row s said
-acted_in found.NoRow s said = nothing s
+abbrev pub acted_in : Option Row → Settings → Said → Done
+acted_in (Some row) s said = acted row s said
+acted_in None s said = nothing s
 
 -- by the message that it is read as; no command is read as a status or as denied
-abbrev pub done_by : Profile → Settings → ℕ → ℕ → Reading → Done
-done_by profile s zone command (reading.Message (message.Command said)) = acted_in (row_of profile said.command) s said
-done_by profile s zone command (reading.Message (message.Status said)) = nothing s
-done_by profile s zone command (reading.Message (message.Denied d)) = nothing s
-done_by profile s zone command (reading.Refused n) = refused s zone command n
+abbrev pub done_by : Profile → Settings → ℕ → ℕ → Result Message Refusal → Done
+done_by profile s zone command (Ok (message.Command said)) = acted_in (row_of profile said.command) s said
+done_by profile s zone command (Ok (message.Status said)) = nothing s
+done_by profile s zone command (Ok (message.Denied d)) = nothing s
+done_by profile s zone command (Err e) = refused s zone command e
 
 -- what a frame does, by its bytes and what the message reader makes of them
 abbrev pub zone_in : List ℕ → ℕ
@@ -124,7 +126,7 @@ zone_in bytes = (fields_in Command bytes).zone
 abbrev pub command_in : List ℕ → ℕ
 command_in bytes = (fields_in Command bytes).command
 
-abbrev pub heard : Profile → List ℕ → Reading
+abbrev pub heard : Profile → List ℕ → Result Message Refusal
 heard profile bytes = read_of profile Command (zone_in bytes) (command_in bytes) 0 (data_in Command bytes)
 
 unfoldable pub frame_done : Profile → Settings → List ℕ → Done

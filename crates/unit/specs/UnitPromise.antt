@@ -1,5 +1,5 @@
 -- Promise: document 01, 'The unit': what each frame leaves true of a unit at legal settings, and how the library reads its answers.
-use Rattle.std.specs.Prelude.{ℕ, ◌≡◌, Bool, true, false, cond, List, [], ◌∷◌, ◌++◌, ◌⊎◌}
+use Rattle.std.specs.Prelude.{ℕ, ◌≡◌, Bool, true, false, cond, List, [], ◌∷◌, ◌++◌, ◌⊎◌, Err, Ok, Some}
 use Rattle.frame.specs.Frame.{frame_of}
 use Rattle.frame.specs.Reader.{answer_to, taken_after, taken_by}
 use Rattle.frame.specs.declared.reader.ByteAnswer.TheVariants.{Waiting, Noise, Frame, Broken}
@@ -7,14 +7,11 @@ use Rattle.frame.specs.declared.direction.Direction.TheVariants.{Command, Answer
 use Rattle.row.specs.Table.{row_of}
 use Rattle.row.specs.declared.profile.Profile.{Profile}
 use Rattle.row.specs.declared.table.Row.{Row}
-use Rattle.row.specs.declared.table.Found.TheVariants as found
 use Rattle.message.specs.Content.{content_of}
 use Rattle.message.specs.Message.{from_reading, frame_read}
 use Rattle.message.specs.declared.content.Content.TheVariants.{Request, Input}
 use Rattle.message.specs.declared.read.Said.{Said}
 use Rattle.message.specs.declared.read.Message.TheVariants as message
-use Rattle.message.specs.declared.read.Reading.TheVariants as reading
-use Rattle.message.specs.declared.read.FrameReading.TheVariants as frame
 use Rattle.sheet.specs.Line.{is_legal}
 use Rattle.sheetfile.specs.Run.{line_frame}
 use Rattle.sheet.specs.declared.line.Line.{Line}
@@ -22,28 +19,30 @@ use Rattle.unit.specs.House.{value_after}
 use Rattle.unit.specs.Unit.{Holds, Setting, value, input, current, Settings, put, Unit, Done, nothing, shown, refusal_code, zone_in, command_in, heard, frame_done, done, takes, after, replies}
 use Rattle.unit.specs.Legal.{LegalSettings}
 use Rattle.unit.specs.Sending.{AreBytes, setting_of}
+use Rattle.refusals.specs.declared.refusal.Refusal.{Refusal}
+use Rattle.refusals.specs.declared.refusal.Refusal.TheVariants.{WrongZone, NoRow, WrongLength, WrongValue, NoStep}
 
 -- the answer to a command: its data show a cell as it is after the command, the row's in that zone or an input of S 0F, and the library
 -- reads it as the status of that zone and command
 pub record ToldStatus (profile : Profile) (c : Said) (d : Done) : Type 0 where
   pub row : Row
-  pub there : row_of profile c.command ≡ found.Row row
+  pub there : row_of profile c.command ≡ Some row
   pub cell : Setting
   pub which : (cell ≡ value c.zone c.command) ⊎ ((i : ℕ) × (cell ≡ input i))
   pub shows : d.answer ≡ frame_of Answer c.zone c.command 0x00 (shown cell (d.settings cell))
   pub status : frame_read profile Answer d.answer
-      ≡ frame.Message (message.Status (record {
+      ≡ Some (Ok (message.Status (record {
         zone = c.zone;
         command = c.command;
         content = content_of Answer row (shown cell (d.settings cell));
-      }))
+      })))
 
--- the answer to a refused frame: the number is one that a command can get, and the library reads the answer as denied
-pub record ToldDenial (profile : Profile) (bytes : List ℕ) (n : ℕ) (d : Done) : Type 0 where
-  pub number : (n ≡ 1) ⊎ (n ≡ 2) ⊎ (n ≡ 3) ⊎ (n ≡ 4) ⊎ (n ≡ 13)
-  pub answer : d.answer ≡ frame_of Answer (zone_in bytes) (command_in bytes) (refusal_code n) []
+-- the answer to a refused frame: the number is one that a command can get, 1, 2, 3, 4 or 13, and the library reads the answer as denied
+pub record ToldDenial (profile : Profile) (bytes : List ℕ) (e : Refusal) (d : Done) : Type 0 where
+  pub number : (e ≡ WrongZone) ⊎ (e ≡ NoRow) ⊎ (e ≡ WrongLength) ⊎ (e ≡ WrongValue) ⊎ (e ≡ NoStep)
+  pub answer : d.answer ≡ frame_of Answer (zone_in bytes) (command_in bytes) (refusal_code e) []
   pub denial : frame_read profile Answer d.answer
-      ≡ frame.Message (message.Denied (record { zone = zone_in bytes; command = command_in bytes; answer = refusal_code n }))
+      ≡ Some (Ok (message.Denied (record { zone = zone_in bytes; command = command_in bytes; answer = refusal_code e })))
 
 pub record DonePromise (profile : Profile) (s : Settings) (bytes : List ℕ) : Type 0 where
   -- legal settings stay legal
@@ -51,14 +50,14 @@ pub record DonePromise (profile : Profile) (s : Settings) (bytes : List ℕ) : T
   -- "a current input, which nothing here changes"
   pub now : (frame_done profile s bytes).settings current ≡ s current
   -- "A refused frame changes nothing"
-  pub kept : (n : ℕ) → heard profile bytes ≡ reading.Refused n → (frame_done profile s bytes).settings ≡ s
-  pub denied : (n : ℕ) → heard profile bytes ≡ reading.Refused n → ToldDenial profile bytes n (frame_done profile s bytes)
+  pub kept : (e : Refusal) → heard profile bytes ≡ Err e → (frame_done profile s bytes).settings ≡ s
+  pub denied : (e : Refusal) → heard profile bytes ≡ Err e → ToldDenial profile bytes e (frame_done profile s bytes)
   -- "the answer holds the row's value after it"
-  pub told : LegalSettings profile s → (c : Said) → heard profile bytes ≡ reading.Message (message.Command c) → ToldStatus profile c (frame_done profile s bytes)
+  pub told : LegalSettings profile s → (c : Said) → heard profile bytes ≡ Ok (message.Command c) → ToldStatus profile c (frame_done profile s bytes)
 
 -- "Otherwise the command acts": which cell it sets, to what its house rule says, and no other; and the bytes of its answer
-pub record ActPromise (profile : Profile) (s : Settings) (bytes : List ℕ) (c : Said) (heard_so : heard profile bytes ≡ reading.Message (message.Command c)) (row : Row)
-    (there : row_of profile c.command ≡ found.Row row) : Type 0 where
+pub record ActPromise (profile : Profile) (s : Settings) (bytes : List ℕ) (c : Said) (heard_so : heard profile bytes ≡ Ok (message.Command c)) (row : Row)
+    (there : row_of profile c.command ≡ Some row) : Type 0 where
   pub single : row.pair ≡ false
       → ((frame_done profile s bytes).settings ≡ put s (value c.zone c.command) (value_after row c.content (s (value c.zone c.command))))
       × ((frame_done profile s bytes).answer ≡ frame_of Answer c.zone c.command 0x00 (value_after row c.content (s (value c.zone c.command)) ∷ []))

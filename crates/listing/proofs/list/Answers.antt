@@ -3,6 +3,6 @@ use Rattle.std.proofs.Common.{arith, rules}
 use Rattle.listing_pieces.proofs.Whole.{answered_fewer}
 use Rattle.listing.proofs.list.Goals as goal
 
-pub loop-count-smaller : goal.loop-count-smaller
-loop-count-smaller c =
-    answered_fewer c.args.input.now c.loop-count.place c.loop-count.piece c.in-Text.count c.in-Text.next (omega (arith, c.loop-count.invariant)) c.in-Text.ensures.answers (search rules)
+pub loop-piece-smaller : goal.loop-piece-smaller
+loop-piece-smaller c =
+    answered_fewer c.args.input.now c.loop-piece.place c.loop-piece.buffer c.in-Ok.piece (omega (arith, c.loop-piece.invariant)) c.in-Ok.ensures.answers (search rules)

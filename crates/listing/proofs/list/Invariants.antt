@@ -3,8 +3,8 @@ use Rattle.std.proofs.Common.{◌≡◌, length}
 use Rattle.listing_pieces.specs.Pieces.{coming_in}
 use Rattle.listing.proofs.list.Given as goal
 
-abbrev pub invariant-loop-count : goal.invariant-loop-count
-invariant-loop-count l = length l.piece ≡ 65536
+abbrev pub invariant-loop-piece : goal.invariant-loop-piece
+invariant-loop-piece l = length l.buffer ≡ 65536
 
-abbrev pub decreases-loop-count : goal.decreases-loop-count
-decreases-loop-count l = length (coming_in l.input l.place)
+abbrev pub decreases-loop-piece : goal.decreases-loop-piece
+decreases-loop-piece l = length (coming_in l.input l.place)

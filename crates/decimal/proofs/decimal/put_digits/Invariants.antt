@@ -9,6 +9,3 @@ abbrev pub invariant-loop-i : goal.invariant-loop-i
 invariant-loop-i l =
     (later : List ℕ) × (l.i ≤ l.count) × (length l.buf ≡ length l.initial.buf) × (last_digits l.count l.number ≡ last_digits l.i l.rest ++ later)
     × (l.buf ≡ take (l.at + l.i) l.initial.buf ++ (later ++ drop (l.at + l.count) l.initial.buf))
-
-abbrev pub decreases-loop-i : goal.decreases-loop-i
-decreases-loop-i l = l.i

@@ -28,15 +28,15 @@ pub loop-at-preserved : goal.loop-at-preserved
 loop-at-preserved c =
     let l = c.loop-at in
     let noise = l.invariant.0 in
-    let next = c.stretch-next.result in
-    let w : Within c.args.capture.now l.at next =
-    rw c.stretch-next.ensures (stretch_within c.header-header.result c.args.capture.now l.at (rw c.header-header.ensures (omega (arith, header_least c.args.direction))) (omega arith)) in
-    let moved = noisy_event l.totals noise next.length next.kind in
-    let sums : sum (with_event (noisy l.totals noise) next.length next.kind) ≡ l.at + next.length =
-    omega (arith, l.invariant.2, sum_more (noisy l.totals noise) next.length next.kind) in (
+    let event = c.stretch-event.result in
+    let w : Within c.args.capture.now l.at event =
+    rw c.stretch-event.ensures (stretch_within c.header-header.result c.args.capture.now l.at (rw c.header-header.ensures (omega (arith, header_least c.args.direction))) (omega arith)) in
+    let moved = noisy_event l.totals noise event.length event.kind in
+    let sums : sum (with_event (noisy l.totals noise) event.length event.kind) ≡ l.at + event.length =
+    omega (arith, l.invariant.2, sum_more (noisy l.totals noise) event.length event.kind) in (
       noise,
       omega arith,
       rw c.add_event-totals.ensures (sym (ap sum moved) ∙ sums),
       λ dir e. l.invariant.3 dir e ∙ totals_more dir c.header-header.result c.args.capture.now l.at (noisy l.totals noise) e (omega arith)
-          ∙ rw (← c.stretch-next.ensures, c.add_event-totals.ensures) (ap (λ (t : Totals). totals_from t (events_from dir c.args.capture.now (l.at + next.length))) moved),
+          ∙ rw (← c.stretch-event.ensures, c.add_event-totals.ensures) (ap (λ (t : Totals). totals_from t (events_from dir c.args.capture.now (l.at + event.length))) moved),
     )

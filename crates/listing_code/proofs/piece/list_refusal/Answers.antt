@@ -11,5 +11,5 @@ pub returns-in-Start-clause-leaves : goal.returns-in-Start-clause-leaves
 unfolding letters text_line
 returns-in-Start-clause-leaves c =
     rw c.in-Start.is
-    (one_line_lem 14 c.args.buf.now c.put_bytes-end.new.buf (refused_text c.args.number) c.put_bytes-end.result place.Start (search rules)
-    (both (search rules) c.put_counted-first.ensures c.put_bytes-end.ensures)).1
+    (one_line_lem 14 c.args.buf.now c.put_bytes-end.new.buf (refused_text c.args.refusal) c.put_bytes-end.result place.Start (search rules)
+    (both (search rules) (rw c.number.ensures at c.put_counted-first.ensures) c.put_bytes-end.ensures)).1

@@ -1,15 +1,11 @@
--- What the fields say is read, and written again.
-use Rattle.std.proofs.Common.{◌∙◌, sym}
-use Rattle.message.proofs.Writes.{fields_refused, fields_message}
+-- A refusal of what is read is passed on.
+use Rattle.std.proofs.Common.{sym, ◌∙◌}
+use Rattle.std.proofs.lemmas.Result.{err_from_is_err_and}
+use Rattle.message.proofs.Writes.{fields_refused}
 use Rattle.message_write.proofs.write.write_fields.Goals as goal
 
-pub returns-in_default-clause-leaves : goal.returns-in_default-clause-leaves
-returns-in_default-clause-leaves c =
+pub returns-in_err-message-clause-answers : goal.returns-in_err-message-clause-answers
+returns-in_err-message-clause-answers c =
     let g = c.args in
-    sym (fields_refused g.profile g.direction g.buf.now g.at g.zone g.command g.answer g.body.now _ (sym c.read_message-reading.ensures ∙ c.in_default.is)).1
-
-pub returns-clause-leaves : goal.returns-clause-leaves
-returns-clause-leaves c =
-    let g = c.args in
-    c.write_message.ensures.leaves
-    ∙ (fields_message g.profile g.direction g.buf.now g.at g.zone g.command g.answer g.body.now _ (sym c.in-Message.ensures)).1
+    let p = err_from_is_err_and c.from_residual.result c.from_residual.ensures.1 in
+    rw (p.1, p.2) (sym (fields_refused _ _ g.buf.now g.at _ _ _ _ _ (sym c.read_message.ensures ∙ c.in_err-message.was)))

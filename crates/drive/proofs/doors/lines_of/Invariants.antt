@@ -1,9 +1,0 @@
--- Each line takes three bytes that are there.
-use Rattle.std.proofs.Common.{◌-◌, ◌≤◌, length}
-use Rattle.drive.proofs.doors.lines_of.Given as goal
-
-abbrev pub invariant-loop-at : goal.invariant-loop-at
-invariant-loop-at l = l.at ≤ length l.bytes
-
-abbrev pub decreases-loop-at : goal.decreases-loop-at
-decreases-loop-at l = length l.bytes - l.at
