@@ -2,8 +2,9 @@
 use mathlib.Core.Path.{◌≡◌, refl, ap, sym, ◌∙◌}
 use mathlib.Core.Bool.{Bool, true, false, cond}
 use mathlib.Core.List.{List, [], ◌∷◌, ◌++◌, append_assoc}
-use Prim.Native.Nat.{ℕ, zero, suc, ◌-◌, ◌*◌, ◌/◌, ◌%◌, ◌≤◌, ◌<◌}
+use Prim.Native.Nat.{ℕ, zero, suc, ◌+◌, ◌-◌, ◌*◌, ◌/◌, ◌%◌, ◌^◌, ◌≤◌, ◌<◌}
 use native.Mathlib.Omega.{arith}
+use native.Mathlib.Numerals.{unary_clauses}
 use borrow.Author.Tests.{lt-ltb, le-ltb, ltb-true, ltb-false}
 use lib.Dec.{ltb}
 use lib.ListN.{length, take, get_or, set, length-append}
@@ -53,6 +54,20 @@ sized (suc j) (suc k) n bound high low =
 
 pub decimal_long : (j n : ℕ) → n < tens (suc j) → Least j n → suc j ≡ length (decimal n)
 decimal_long j n high low = sym (ap (λ (ds : List ℕ). length ds) (sized j n n (omega arith) high low) ∙ digits_count (suc j) n)
+
+-- the same by the power of ten that is the greatest in a number; 0 has none, and one digit
+tens_power : (j : ℕ) → tens j ≡ 10 ^ j
+tens_power zero = refl
+tens_power (suc j) = simp unary_clauses (omega (arith, tens_power j))
+
+pub decimal_power : (j n : ℕ) → 10 ^ j ≤ n → n < 10 * 10 ^ j → j + 1 ≡ length (decimal n)
+decimal_power zero n low high = decimal_long 0 n (omega arith) tt
+decimal_power (suc j) n low high =
+    let same = tens_power (suc j) in
+    omega (arith, decimal_long (suc j) n (omega (arith, same)) (omega (arith, same)))
+
+pub decimal_none : (n : ℕ) → n ≡ 0 → 1 ≡ length (decimal n)
+decimal_none n h = decimal_long 0 n (omega arith) tt
 
 -- at most so many digits
 most_more : (j k n : ℕ) → n < tens (suc j) → ((i : ℕ) → n / 10 < tens (suc i) → length (decimal_in k (n / 10)) ≤ suc i) → length (decimal_in (suc k) n) ≤ suc j

@@ -42,7 +42,8 @@ pub fn hex_digit(value: u8) -> u8
     }
 }
 
-// Writes a byte as two hex digits; 9 where there is no room for them, and then the buffer is as it was.
+// Writes a byte as two hex digits; 9 where there is no room for them, and then the buffer is as it was. By its own test
+// of room and no call of write_bytes: the must-fail edit nine_late asks that test for one byte too few.
 #[tactic(auto, using(lent::proofs::Room::room_within, crate::proofs::Rooms::refused, crate::proofs::Rooms::written))]
 pub fn write_hex(buf: &mut [u8], at: usize, byte: u8) -> Result<usize, Refusal>
     ensures answers { result ≡ write_answered [] buf.old at (hex_byte byte) }

@@ -30,9 +30,10 @@ pub fn write_integer(buf: &mut [u8], at: usize, number: i32) -> Result<usize, Re
 {
     let size = number.unsigned_abs();
     if number < 0 {
-        return write_minus(buf, at, size);
+        write_minus(buf, at, size)
+    } else {
+        write_decimal(buf, at, size)
     }
-    write_decimal(buf, at, size)
 }
 
 // A minus sign, and a number's digits behind it.
@@ -51,25 +52,19 @@ fn write_minus(buf: &mut [u8], at: usize, size: u32) -> Result<usize, Refusal>
     Ok(length)
 }
 
-// How many digits a number has.
+// How many digits a number has: one more than zeros in the greatest power of ten within it.
+#[tactic(auto, using(characters::proofs::Digits::decimal_power, characters::proofs::Digits::decimal_none))]
 fn digits_of(number: u32) -> usize
     ensures { result ≡ length (decimal number) }
 {
-    match number {
-        0..=9 => 1,
-        10..=99 => 2,
-        100..=999 => 3,
-        1_000..=9_999 => 4,
-        10_000..=99_999 => 5,
-        100_000..=999_999 => 6,
-        1_000_000..=9_999_999 => 7,
-        10_000_000..=99_999_999 => 8,
-        100_000_000..=999_999_999 => 9,
-        _ => 10,
+    match number.checked_ilog10() {
+        None => 1,
+        Some(zeros) => zeros as usize + 1,
     }
 }
 
-// The last digits of a number, so many, from the last to the first.
+// The last digits of a number, so many, from the last to the first. By places: of what `iter_mut().rev()` has written a
+// proof knows the length alone.
 #[tactic(auto, unfolding(characters::specs::Computed::last_digits))]
 fn put_digits(buf: &mut [u8], at: usize, number: u32, count: usize)
     requires { at + count ≤ length buf.old }

@@ -11,8 +11,8 @@ use sheet::line::Line;
 // A line's word and 13 arguments.
 const WORDS: usize = 14;
 
-// The arguments' bytes, one behind another, where the bytes of each word end, and how many words there are. The line's own
-// word is the first, and has no bytes.
+// The arguments' bytes, one behind another, where the bytes of each word end, and how many words there are. The line's
+// own word is the first, and has no bytes. An array and a count: no heap, and no word more than WORDS is kept.
 #[derive(Clone, Copy)]
 pub(crate) struct Arguments<'a> {
     space: &'a [u8],
@@ -20,7 +20,8 @@ pub(crate) struct Arguments<'a> {
     count: usize,
 }
 
-// What is decoded so far: the words that have ended, how many bytes there are, and the digit that waits for its second.
+// What is decoded so far: the words that have ended (an array and a count, as in Arguments), how many bytes there are,
+// and the digit that waits for its second.
 #[derive(Drop)]
 struct Decoded {
     ends: [usize; WORDS],
@@ -54,8 +55,8 @@ impl Decoded {
 }
 
 impl<'a> Arguments<'a> {
-    // Decodes what is behind a line's word in its own space, from the start on: the bytes take half of their characters. A
-    // character that is no hex digit is passed over.
+    // Decodes what is behind a line's word in its own space, from the start on: the bytes take half of their
+    // characters. A character that is no hex digit is passed over.
     pub(crate) fn decoded(space: &'a mut [u8]) -> Arguments<'a> {
         let mut decoded = Decoded {
             ends: [0; WORDS],

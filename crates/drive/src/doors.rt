@@ -66,16 +66,16 @@ pub(crate) fn feed(out: &mut Output, arguments: &Arguments) -> Result<(), Stop> 
 // Three bytes a line: zone, command and value.
 pub(crate) fn lines_of(bytes: &[u8]) -> Sheet {
     let (lines, _) = bytes.as_chunks::<3>();
-    let mut sheet = no_lines();
-    for &[zone, command, value] in lines {
-        sheet = with_line(
-            sheet,
-            Line {
-                zone,
-                command,
-                value,
-            },
-        );
-    }
-    sheet
+    lines
+        .iter()
+        .fold(no_lines(), |sheet, &[zone, command, value]| {
+            with_line(
+                sheet,
+                Line {
+                    zone,
+                    command,
+                    value,
+                },
+            )
+        })
 }

@@ -43,7 +43,8 @@ pub(crate) fn parts(out: &mut Output, arguments: &Arguments) -> Result<(), Stop>
     Ok(())
 }
 
-// The events of a capture, from 0 on.
+// The events of a capture, from 0 on. The place is counted by hand: as in tracker_code's feed_events, it goes on by
+// whole events. A capture has no more events than bytes.
 pub(crate) fn events(out: &mut Output, arguments: &Arguments) -> Result<(), Stop> {
     let direction = arguments.direction(1)?;
     let capture = arguments.bytes(2);

@@ -53,25 +53,27 @@ fn read_lines(out: &mut Output, mut from: Stdin, line: &mut [u8]) -> io::Result<
 // The last line, where it has no line feed.
 fn end_line(out: &mut Output, line: &mut [u8]) -> io::Result<()> {
     if line.is_empty() {
-        return Ok(());
+        Ok(())
+    } else {
+        operate(out, line)
     }
-    operate(out, line)
 }
 
-// One byte more, where there is room; a line feed ends the line. Answers how many characters the line then has.
+// One byte more, where there is room; a line feed ends the line. Answers how many characters the line then has. There
+// is no heap: the line is lent, and count is how much of it is filled.
 fn take_byte(out: &mut Output, byte: u8, line: &mut [u8], count: usize) -> io::Result<usize>
     requires { count ≤ length line.old }
     ensures { IfOk result (λ now. now ≤ length line.new) }
 {
     if byte == b'\n' {
         operate(out, &mut line[..count])?;
-        return Ok(0);
+        Ok(0)
+    } else if count < line.len() {
+        line[count] = byte;
+        Ok(count + 1)
+    } else {
+        Ok(count)
     }
-    if count == line.len() {
-        return Ok(count);
-    }
-    line[count] = byte;
-    Ok(count + 1)
 }
 
 // One operation; a line that begins with # is none. A listing ends its last line itself.

@@ -46,9 +46,10 @@ pub(crate) fn end_line(out: &mut Output, said: Result<(), Stop>) -> io::Result<(
 // A space before all but the first.
 pub(crate) fn say_between(out: &mut Output, place: usize) -> io::Result<()> {
     if place == 0 {
-        return Ok(());
+        Ok(())
+    } else {
+        out.write_all(b" ")
     }
-    out.write_all(b" ")
 }
 
 // Bytes behind all else that is said.
@@ -70,7 +71,7 @@ pub(crate) fn say_bytes(out: &mut Output, bytes: &[u8]) -> io::Result<()> {
         for (byte, pair) in part.iter().zip(digits.iter_mut()) {
             *pair = [hex_digit(byte / 16), hex_digit(byte % 16)];
         }
-        // a part has no more, which is not known of what a loop is given
+        // chunks gives no more than GATHERED bytes, but the proof of a loop does not know it
         let count = part.len().min(GATHERED);
         out.write_all(digits[..count].as_flattened())?;
     }

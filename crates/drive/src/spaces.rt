@@ -11,28 +11,25 @@ use row::profile::Profile;
 use std::io;
 use std::io::Write;
 
-// The refusals that reading gives.
-const REFUSALS: [Refusal; 6] = [
-    Refusal::WrongZone,
-    Refusal::NoRow,
-    Refusal::WrongLength,
-    Refusal::WrongValue,
-    Refusal::WrongAnswer,
-    Refusal::NoStep,
-];
-
-// How many messages were accepted, and how many got each refusal, in the order of REFUSALS.
+// How many messages were accepted, and how many got each refusal that reading gives.
 #[derive(Drop)]
 struct Counts {
     accepted: u64,
-    refused: [u64; REFUSALS.len()],
+    refused: [(Refusal, u64); 6],
 }
 
 impl Counts {
     fn none() -> Counts {
         Counts {
             accepted: 0,
-            refused: [0; REFUSALS.len()],
+            refused: [
+                (Refusal::WrongZone, 0),
+                (Refusal::NoRow, 0),
+                (Refusal::WrongLength, 0),
+                (Refusal::WrongValue, 0),
+                (Refusal::WrongAnswer, 0),
+                (Refusal::NoStep, 0),
+            ],
         }
     }
 
@@ -51,8 +48,9 @@ impl Counts {
                 say_accepted(out, fields, body, message)
             }
             Err(refusal) => {
-                for (count, counted) in self.refused.iter_mut().zip(REFUSALS) {
-                    if counted == refusal {
+                // a loop and no `find`: what find gives of `self` is changed, and the proof of that does not close
+                for (counted, count) in &mut self.refused {
+                    if *counted == refusal {
                         *count = count.wrapping_add(1);
                     }
                 }
@@ -63,8 +61,8 @@ impl Counts {
 
     fn say(&self, out: &mut Output) -> io::Result<()> {
         write!(out, "accepted {} refused", self.accepted)?;
-        for (count, counted) in self.refused.iter().zip(REFUSALS) {
-            write!(out, " {}:{count}", counted.number())?;
+        for (refusal, count) in &self.refused {
+            write!(out, " {}:{count}", refusal.number())?;
         }
         Ok(())
     }

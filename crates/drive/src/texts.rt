@@ -24,7 +24,7 @@ pub(crate) fn pieces(out: &mut Output, arguments: &Arguments) -> io::Result<()> 
     list(out, arguments.bytes(2), &mut [0; ROOM][..length])
 }
 
-// All its lines, through a lent buffer.
+// All its lines, through a lent buffer. `listing` has this loop too, with room for any piece; here 9 is said.
 fn list(out: &mut Output, input: &[u8], buf: &mut [u8]) -> io::Result<()> {
     let mut place = Place::Start;
     for _ in 0..PIECES {
@@ -35,6 +35,7 @@ fn list(out: &mut Output, input: &[u8], buf: &mut [u8]) -> io::Result<()> {
         if piece.length == 0 {
             break;
         }
+        // bytes_at and no slice: that a piece is within its buffer would need a proof here
         out.write_all(bytes_at(buf, 0, piece.length))?;
         place = piece.next;
     }

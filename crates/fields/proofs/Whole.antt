@@ -2,11 +2,12 @@
 use mathlib.Core.Path.{◌≡◌, refl}
 use mathlib.Core.Bool.{Bool, true, false, ◌&&◌}
 use mathlib.Core.List.{List}
-use Prim.Native.Nat.{ℕ, ◌-◌}
+use Prim.Native.Nat.{ℕ, ◌-◌, ◌<◌}
+use native.Mathlib.Omega.{arith}
 use borrow.Author.Tests.{eq-eqb, ne_eqb, eqb-true}
 use lib.ListN.{length, get_or}
 use Rattle.lists.proofs.Tests.{both}
-use Rattle.frame.specs.Frame.{opens, ends, frame_length, dl}
+use Rattle.frame.specs.Frame.{opens, ends, header, frame_length, dl}
 use Rattle.fields.specs.Fields.{is_frame}
 use Rattle.frame.specs.declared.direction.Direction.{Direction}
 
@@ -35,3 +36,7 @@ module _ (dir : Direction) (bytes : List ℕ) where
   pub wrong_length_lem : (length bytes ≡ frame_length dir (dl dir bytes) → ⊥) → is_frame dir bytes ≡ false
   unfolding is_frame
   wrong_length_lem h = rw (ne_eqb _ _ h, and_false)
+
+  -- it is longer than its header, so that its fields lie within it
+  pub whole_long : is_frame dir bytes ≡ true → header dir < length bytes
+  whole_long e = let w = is_whole e in omega arith

@@ -5,7 +5,8 @@ ghost use Rattle.fields.specs.Fields.{is_frame, answer_in, fields_of, data_of};
 use frame::direction::Direction;
 use frame::reader::Reader;
 
-// What a frame brings beside its data. A command has no answer code: 0 stands for it.
+// What a frame brings beside its data. A command has no answer code: 0 stands for it, as answer_in has it. No Option:
+// the definitions of messages take an answer code in either direction, and look at it in answers alone.
 #[derive(Clone, Copy, Debug, PartialEq, Eq)]
 pub struct Fields {
     pub zone: u8,
@@ -14,6 +15,7 @@ pub struct Fields {
 }
 
 // The zone, command and answer code of the bytes of one whole frame; other bytes have none.
+#[tactic(auto, using(frame::proofs::Header::header_least, crate::proofs::Whole::whole_long))]
 pub fn frame_fields(direction: Direction, bytes: &[u8]) -> Option<Fields>
     ensures { result ≡ fields_of direction bytes.now }
 {
@@ -28,14 +30,14 @@ pub fn frame_fields(direction: Direction, bytes: &[u8]) -> Option<Fields>
 }
 
 // The data of the bytes of one whole frame: a part of what is lent. Bytes that are no whole frame have none.
-#[tactic(auto, using(frame::proofs::Header::header_least, crate::proofs::Whole::is_whole))]
+#[tactic(auto, using(frame::proofs::Header::header_least, crate::proofs::Whole::is_whole, crate::proofs::Whole::whole_long))]
 pub fn frame_data(direction: Direction, bytes: &[u8]) -> &[u8]
     ensures { result.now ≡ data_of direction bytes.now }
 {
     if !is_frame(direction, bytes) {
         return &[];
     }
-    let header = Reader::header(direction) as usize;
+    let header = usize::from(Reader::header(direction));
     let end = bytes.len() - 1;
     &bytes[header..end]
 }
@@ -45,9 +47,9 @@ pub fn frame_data(direction: Direction, bytes: &[u8]) -> &[u8]
 fn is_frame(direction: Direction, bytes: &[u8]) -> bool
     ensures { result ≡ is_frame direction bytes.now }
 {
-    let header = Reader::header(direction) as usize;
+    let header = usize::from(Reader::header(direction));
     bytes.len() > header
-        && bytes.len() == header + bytes[header - 1] as usize + 1
+        && bytes.len() == header + usize::from(bytes[header - 1]) + 1
         && bytes[0] == Reader::OPENS
         && bytes[bytes.len() - 1] == Reader::ENDS
 }

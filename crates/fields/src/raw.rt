@@ -24,10 +24,10 @@ pub fn write_raw(
     ensures leaves { buf.new ≡ write_left (raw_rules body.now) buf.old at (frame_of direction fields.zone fields.command fields.answer body.now) }
 {
     let count = body.len();
-    if count > Reader::DATA_LIMIT as usize {
+    if count > usize::from(Reader::DATA_LIMIT) {
         return Err(Refusal::WrongLength);
     }
-    let length = Reader::header(direction) as usize + count + 1;
+    let length = usize::from(Reader::header(direction)) + count + 1;
     if lacks_room(buf.len(), at, length) {
         return Err(Refusal::NoRoom);
     }
@@ -42,7 +42,7 @@ fn put_frame(direction: Direction, fields: Fields, body: &[u8], tail: &mut [u8])
     ensures { tail.new ≡ frame_of direction fields.zone fields.command fields.answer body.now ++ drop (frame_length direction (length body.now)) tail.old }
 {
     put_header(direction, fields, body.len() as u8, tail);
-    let header = Reader::header(direction) as usize;
+    let header = usize::from(Reader::header(direction));
     let end = header + body.len();
     tail[header..end].copy_from_slice(body);
     tail[end] = Reader::ENDS;

@@ -16,7 +16,7 @@ pub struct Event {
 }
 
 // How many bytes of a capture are of each kind.
-#[derive(Clone, Copy, Debug, PartialEq, Eq)]
+#[derive(Clone, Copy, Debug, Default, PartialEq, Eq)]
 pub struct Totals {
     pub frame: usize,
     pub broken: usize,

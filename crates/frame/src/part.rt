@@ -15,7 +15,8 @@ pub struct Part {
     pub noise: usize,
 }
 
-// Takes a part of a stream from a given reader; the next part goes on from the reader it gives.
+// Takes a part of a stream from a given reader; the next part goes on from the reader it gives. No method of the
+// reader: README and docs/ONE-ANSWER.md name it so.
 #[tactic(auto, using(crate::proofs::Parts::part_more, crate::proofs::Parts::part_end, crate::proofs::Parts::part_adds, crate::proofs::Parts::held_more))]
 pub fn take_part(reader: Reader, bytes: &[u8]) -> Part
     ensures { result ≡ part_of reader bytes.now }
@@ -44,8 +45,8 @@ impl Part {
         match fed.answer {
             ByteAnswer::Waiting => {}
             ByteAnswer::Noise => self.noise += 1,
-            ByteAnswer::Frame(n) => self.frame += n as usize,
-            ByteAnswer::Broken(n) => self.broken += n as usize,
+            ByteAnswer::Frame(n) => self.frame += usize::from(n),
+            ByteAnswer::Broken(n) => self.broken += usize::from(n),
         }
         self
     }

@@ -15,7 +15,8 @@ pub enum ByteAnswer {
 }
 
 // A reader for one direction. It keeps no bytes of the frame: `place` is how many are taken (0: it
-// stands outside), and `dl` is Dl, or 0 while Dl is still to come.
+// stands outside), and `dl` is Dl, or 0 while Dl is still to come. Numbers and no enum: a host may have
+// spoilt them, and SpoiltPromise answers every value.
 #[derive(Clone, Copy, Debug, PartialEq, Eq)]
 pub struct Reader {
     pub direction: Direction,
@@ -80,25 +81,23 @@ impl Reader {
         ensures { result ≡ fed_at self.direction header self.place self.dl byte }
     {
         let place = self.place;
+        let end = header + u16::from(self.dl);
         if place == 0 {
-            return if byte == Reader::OPENS {
-                self.stands(1, 0, ByteAnswer::Waiting)
-            } else {
-                self.stands(0, 0, ByteAnswer::Noise)
-            };
-        }
-        if place < header {
+            match byte {
+                Reader::OPENS => self.stands(1, 0, ByteAnswer::Waiting),
+                _ => self.stands(0, 0, ByteAnswer::Noise),
+            }
+        } else if place < header {
             let dl = if place + 1 == header { byte } else { 0 };
-            return self.stands(place + 1, dl, ByteAnswer::Waiting);
-        }
-        let end = header + self.dl as u16;
-        if place < end {
-            return self.stands(place + 1, self.dl, ByteAnswer::Waiting);
-        }
-        match byte {
-            Reader::ENDS => self.stands(0, 0, ByteAnswer::Frame(end + 1)),
-            Reader::OPENS => self.stands(1, 0, ByteAnswer::Broken(end)),
-            _ => self.stands(0, 0, ByteAnswer::Broken(end + 1)),
+            self.stands(place + 1, dl, ByteAnswer::Waiting)
+        } else if place < end {
+            self.stands(place + 1, self.dl, ByteAnswer::Waiting)
+        } else {
+            match byte {
+                Reader::ENDS => self.stands(0, 0, ByteAnswer::Frame(end + 1)),
+                Reader::OPENS => self.stands(1, 0, ByteAnswer::Broken(end)),
+                _ => self.stands(0, 0, ByteAnswer::Broken(end + 1)),
+            }
         }
     }
 

@@ -8,7 +8,8 @@ use frame::direction::Direction;
 use frame::reader::Reader;
 use refusals::refusal::Refusal;
 
-// The longest capture whose bytes are counted.
+// The longest capture whose bytes are counted. Three crates test it, each before its own work; the test is one
+// comparison, and a function for it would be no shorter.
 pub const CAPTURE_LIMIT: usize = 60000;
 
 // The first event that a fresh reader makes of the bytes from a place on. Begin at 0 and go on at
@@ -17,20 +18,22 @@ pub const CAPTURE_LIMIT: usize = 60000;
 pub fn next_event(direction: Direction, capture: &[u8], at: usize) -> Option<Event>
     ensures { result ≡ first_of (events_from direction capture.now at) }
 {
-    if capture.len() <= at {
-        return None;
+    if at < capture.len() {
+        Some(stretch(usize::from(Reader::header(direction)), capture, at))
+    } else {
+        None
     }
-    Some(stretch(Reader::header(direction) as usize, capture, at))
 }
 
 // The four totals of a capture; 11 for one over 60,000 bytes.
 pub fn capture_totals(direction: Direction, capture: &[u8]) -> Result<Totals, Refusal>
     ensures { result ≡ counted_of direction capture.now }
 {
-    if capture.len() > CAPTURE_LIMIT {
-        return Err(Refusal::TooLong);
+    if capture.len() <= CAPTURE_LIMIT {
+        Ok(count_events(direction, capture))
+    } else {
+        Err(Refusal::TooLong)
     }
-    Ok(count_events(direction, capture))
 }
 
 // The same by the direction's letter; 12 for a letter that names none, before 11.
@@ -45,13 +48,8 @@ pub fn capture_totals_by_letter(letter: u8, capture: &[u8]) -> Result<Totals, Re
 fn count_events(direction: Direction, capture: &[u8]) -> Totals
     ensures { result ≡ totals_of direction capture.now }
 {
-    let header = Reader::header(direction) as usize;
-    let mut totals = Totals {
-        frame: 0,
-        broken: 0,
-        noise: 0,
-        pending: 0,
-    };
+    let header = usize::from(Reader::header(direction));
+    let mut totals = Totals::default();
     let mut at = 0;
     // a `while`, since the place goes on by whole stretches, as no iterator of a slice does
     while at < capture.len() {
@@ -113,7 +111,7 @@ fn stretch(header: usize, capture: &[u8], at: usize) -> Event
     let Some(&dl) = capture.get(at + (header - 1)) else {
         return pending;
     };
-    let end = header + dl as usize;
+    let end = header + usize::from(dl);
     let (length, kind) = match capture.get(at + end) {
         None => return pending,
         Some(&Reader::ENDS) => (end + 1, Kind::Frame),

@@ -12,15 +12,12 @@ use sheet_code::lines::{no_lines, with_line};
 use sheetfile_code::write::{put_file, put_run};
 
 // A sheet with a list of lines more.
-#[tactic(auto, using(crate::proofs::Folds::fold_more, crate::proofs::Folds::fold_end))]
 pub fn with_lines(lines: &[Line], from: Sheet) -> Sheet
     ensures { result ≡ with_all from lines.now }
 {
-    let mut sheet = from;
-    for line in lines {
-        sheet = with_line(sheet, *line);
-    }
-    sheet
+    lines
+        .iter()
+        .fold(from, |sheet, line| with_line(sheet, *line))
 }
 
 // The check of a sheet that comes as a list of lines: 6, then the lowest line at fault.

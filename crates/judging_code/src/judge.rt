@@ -28,12 +28,13 @@ pub fn judge(
     Ok(row)
 }
 
-// Judges zone and row alone.
+// Judges zone and row alone. Zone and command come one by one: callers have them in a Line, a Fields or a Said, each
+// with a third field of its own.
 #[tactic(auto, unfolding(judging::specs::Judge::row_judged))]
 pub fn judge_row(profile: Profile, zone: u8, command: u8) -> Result<Row, Refusal>
     ensures { result ≡ row_judged profile zone command }
 {
-    if zone == 0 || profile.zones() < zone {
+    if !(1..=profile.zones()).contains(&zone) {
         return Err(Refusal::WrongZone);
     }
     let row = row_table::table::find_row(profile, command).ok_or(Refusal::NoRow)?;
@@ -66,12 +67,10 @@ fn value_fits(direction: Direction, row: Row, body: &[u8]) -> bool
     requires { 0 < length body.now }
     ensures { result ≡ has_value direction row body.now }
 {
-    if let [input, state] = body {
-        return pair_fits(row, *input, *state);
-    }
-    match direction {
-        Direction::Command => command_fits(row, body[0]),
-        Direction::Answer => is_answer(row, body[0]),
+    match (direction, body) {
+        (_, [input, state]) => pair_fits(row, *input, *state),
+        (Direction::Command, _) => command_fits(row, body[0]),
+        (Direction::Answer, _) => is_answer(row, body[0]),
     }
 }
 

@@ -8,15 +8,13 @@ use sheet::sheet::{SHEET_LIMIT, Sheet};
 pub(crate) const ROOM: usize = SHEET_LIMIT + 1;
 
 // The lines of a sheet, and behind them one of zeros.
+// Each of the five doors lends `&room[..count]` for itself: one function for all of them would take the door as a
+// closure, and of a closure that has the buffer its caller learns the result alone, and not what was written.
 #[tactic(auto, unfolding(crate::specs::Room::room_of))]
 pub(crate) fn room_of(sheet: Sheet) -> [Line; ROOM]
     ensures { result ≡ room_of sheet }
 {
-    let mut room = [Line {
-        zone: 0,
-        command: 0,
-        value: 0,
-    }; ROOM];
+    let mut room = [Line::default(); ROOM];
     room[..SHEET_LIMIT].copy_from_slice(&sheet.lines);
     room
 }

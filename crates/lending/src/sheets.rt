@@ -19,7 +19,8 @@ pub fn check_sheet_lent(profile: Profile, sheet: Sheet) -> Result<(), Fault>
     check_sheet(profile, &room[..count])
 }
 
-// Writes its file into the rest of the buffer from a place: a door of its own, as `write_run_lent` is, for each of `host`.
+// Writes its file into the rest of the buffer from a place: a door of its own, as `write_run_lent` is, for each of
+// `host`.
 #[tactic(auto, using(crate::proofs::Rooms::brought, sheetfile::proofs::Together::file_answer, sheetfile::proofs::Together::file_after))]
 pub fn write_sheet_file_lent(
     profile: Profile,

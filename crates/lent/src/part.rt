@@ -7,20 +7,20 @@ ghost use Rattle.lent.specs.Placed.{bytes_at, last_bytes};
 pub fn bytes_at(bytes: &[u8], at: usize, length: usize) -> &[u8]
     ensures { result.now ≡ bytes_at bytes.now at length }
 {
-    if at > bytes.len() || length > bytes.len() - at {
-        return &[];
-    }
-    &bytes[at..at + length]
+    bytes
+        .get(at..)
+        .and_then(|rest| rest.get(..length))
+        .unwrap_or(&[])
 }
 
-// The last bytes of those that were kept, as many as asked for: of a live port, after the answer frame, the frame. Where
-// fewer are kept, none.
+// The last bytes of those that were kept, as many as asked for: of a live port, after the answer frame, the frame.
+// Where fewer are kept, none.
 #[tactic(auto, unfolding(crate::specs::Placed::last_bytes))]
 pub fn last_bytes(kept: &[u8], count: usize) -> &[u8]
     ensures { result.now ≡ last_bytes kept.now count }
 {
-    if count > kept.len() {
-        return &[];
-    }
-    &kept[kept.len() - count..]
+    kept.len()
+        .checked_sub(count)
+        .and_then(|start| kept.get(start..))
+        .unwrap_or(&[])
 }

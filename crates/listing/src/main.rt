@@ -4,6 +4,7 @@
 
 ghost use Rattle.std.specs.Prelude.{◌≤◌, length, IfOk};
 
+use lent::part::bytes_at;
 use listing_code::piece::list_piece;
 use listing_pieces::piece::Place;
 use std::io;
@@ -20,7 +21,8 @@ fn main(rt: HostRuntime) -> io::Result<()> {
     list(rt.stdout(), &buffer[..count])
 }
 
-// Reads until the buffer is full or the input ends, and answers how many bytes were read.
+// Reads until the buffer is full or the input ends, and answers how many bytes were read. `run` and `signoff` have it
+// too, of files: a public function could promise nothing of what is read.
 fn read_full(mut from: Stdin, buffer: &mut [u8]) -> io::Result<usize>
     ensures { IfOk result (λ count. count ≤ length buffer.new) }
 {
@@ -44,7 +46,8 @@ fn list(out: Stdout, input: &[u8]) -> io::Result<()> {
         if piece.length == 0 {
             break;
         }
-        out.write_all(lent::part::bytes_at(&buffer, 0, piece.length))?;
+        // bytes_at and no slice: that a piece is within its buffer would need a proof here
+        out.write_all(bytes_at(&buffer, 0, piece.length))?;
         place = piece.next;
     }
     Ok(())

@@ -1,5 +1,6 @@
 // One event of a capture as a line of text.
 ghost use Rattle.std.specs.Prelude.{◌≡◌, ◌++◌, ◌+◌, ◌^◌, ◌≤◌, ◌<◌, length, Err, Ok, Some};
+ghost use Rattle.frame.specs.Capture.{capture_limit};
 ghost use Rattle.message.specs.declared.content.Content.TheVariants as content;
 ghost use Rattle.message.specs.declared.read.Message.TheVariants as message;
 ghost use Rattle.characters.specs.Letters.{letters};
@@ -19,12 +20,13 @@ use message_read::read::read_frame;
 use refusals::refusal::Refusal;
 use row::profile::Profile;
 
-// A capture that is listed: the receivers that it is of, which way its frames go, and its bytes.
+// A capture that is listed: the receivers that it is of, which way its frames go, and its bytes, within the limit.
 #[derive(Clone, Copy)]
 pub(crate) struct Listed<'a> {
     pub profile: Profile,
     pub direction: Direction,
     pub capture: &'a [u8],
+    ghost short: { length capture.now ≤ capture_limit },
 }
 
 impl Listed<'_> {
@@ -37,29 +39,22 @@ impl Listed<'_> {
         let second = put_bytes(buf, first, b" ");
         let third = put_number(buf, second, event.length as u16);
         let bytes = bytes_at(self.capture, event.at, event.length);
-        put_kind(self.profile, self.direction, bytes, event.kind, buf, third)
+        self.put_kind(bytes, event.kind, buf, third)
     }
-}
 
-// What stands behind the place and the length. 27 bytes are the most that it takes, so that each function which chooses
-// among its texts asks for as many.
-#[tactic(auto, unfolding(characters::specs::Letters::letters, listing_text::specs::Listing::text_line))]
-fn put_kind(
-    profile: Profile,
-    direction: Direction,
-    bytes: &[u8],
-    kind: Kind,
-    buf: &mut [u8],
-    at: usize,
-) -> usize
-    requires { at + 27 ≤ length buf.old }
-    ensures { Put 27 buf.old at (behind (event_text profile direction bytes.now kind)) buf.new result }
-{
-    match kind {
-        Kind::Frame => put_reading(read_frame(profile, direction, bytes), buf, at),
-        Kind::Broken => put_bytes(buf, at, b" broken - - - -\n"),
-        Kind::Noise => put_bytes(buf, at, b" noise - - - -\n"),
-        Kind::Pending => put_bytes(buf, at, b" pending - - - -\n"),
+    // What stands behind the place and the length. 27 bytes are the most that it takes, so that each function which
+    // chooses among its texts asks for as many.
+    #[tactic(auto, unfolding(characters::specs::Letters::letters, listing_text::specs::Listing::text_line))]
+    fn put_kind(&self, bytes: &[u8], kind: Kind, buf: &mut [u8], at: usize) -> usize
+        requires { at + 27 ≤ length buf.old }
+        ensures { Put 27 buf.old at (behind (event_text self.now.profile self.now.direction bytes.now kind)) buf.new result }
+    {
+        match kind {
+            Kind::Frame => put_reading(read_frame(self.profile, self.direction, bytes), buf, at),
+            Kind::Broken => put_bytes(buf, at, b" broken - - - -\n"),
+            Kind::Noise => put_bytes(buf, at, b" noise - - - -\n"),
+            Kind::Pending => put_bytes(buf, at, b" pending - - - -\n"),
+        }
     }
 }
 
@@ -80,7 +75,7 @@ fn put_unread(refusal: Refusal, buf: &mut [u8], at: usize) -> usize
     ensures { Put 20 buf.old at (behind (read_text (Some (Err refusal)))) buf.new result }
 {
     let first = put_bytes(buf, at, b" unread - - - ");
-    let second = put_number(buf, first, refusal.number() as u16);
+    let second = put_number(buf, first, u16::from(refusal.number()));
     put_bytes(buf, second, b"\n")
 }
 
@@ -105,6 +100,8 @@ fn shown_of(message: Message) -> Shown
     }
 }
 
+// Commands and statuses by one call, with a flag that tells them apart: a call for each cost a frame some fifty
+// instructions more (docs/BENCHMARK.md).
 fn put_said(said: Said, answered: bool, buf: &mut [u8], at: usize) -> usize
     requires { at + 27 ≤ length buf.old }
     ensures { Put 27 buf.old at (said_behind (answer_text answered) said) buf.new result }
@@ -122,9 +119,10 @@ fn put_answer(answered: bool, buf: &mut [u8], at: usize) -> usize
     ensures { Put 4 buf.old at (answer_text answered) buf.new result }
 {
     if answered {
-        return put_bytes(buf, at, b" 00 ");
+        put_bytes(buf, at, b" 00 ")
+    } else {
+        put_bytes(buf, at, b" - ")
     }
-    put_bytes(buf, at, b" - ")
 }
 
 fn put_denied(denial: Denial, buf: &mut [u8], at: usize) -> usize
@@ -143,7 +141,7 @@ fn put_named(word: &[u8], zone: u8, command: u8, buf: &mut [u8], at: usize) -> u
     ensures { Put (length word.now + 8) buf.old at (word.now ++ (decimal zone ++ (letters " " ++ hex_byte command))) buf.new result }
 {
     let first = put_bytes(buf, at, word);
-    let second = put_number(buf, first, zone as u16);
+    let second = put_number(buf, first, u16::from(zone));
     let third = put_bytes(buf, second, b" ");
     put_hex(buf, third, command)
 }
@@ -180,9 +178,10 @@ fn put_input(input: u8, on: bool, buf: &mut [u8], at: usize) -> usize
     requires { at + 7 ≤ length buf.old }
     ensures { Put 7 buf.old at (value_text (content.Input input on)) buf.new result }
 {
-    let colon = put_number(buf, at, input as u16);
+    let colon = put_number(buf, at, u16::from(input));
     if on {
-        return put_bytes(buf, colon, b":1");
+        put_bytes(buf, colon, b":1")
+    } else {
+        put_bytes(buf, colon, b":0")
     }
-    put_bytes(buf, colon, b":0")
 }

@@ -1,7 +1,7 @@
 // The listing of a capture, given out in pieces: whole lines as long as there is room for any line, and the place to go
 // on at.
 ghost use Rattle.std.specs.Prelude.{◌≡◌, ◌++◌, ◌+◌, ◌^◌, ◌≤◌, ◌<◌, length};
-ghost use Rattle.frame.specs.Capture.{capture_limit, events_from, totals_of};
+ghost use Rattle.frame.specs.Capture.{events_from, totals_of};
 ghost use Rattle.lent.specs.Placed.{placed};
 ghost use Rattle.characters.specs.Decimal.{decimal};
 ghost use Rattle.listing_text.specs.Listing.{total_line};
@@ -52,7 +52,7 @@ fn list_refusal(refusal: Refusal, place: Place, buf: &mut [u8]) -> Piece
 {
     match place {
         Place::Start => {
-            let first = put_counted(b"refused ", refusal.number() as usize, buf, 0);
+            let first = put_counted(b"refused ", usize::from(refusal.number()), buf, 0);
             let end = put_bytes(buf, first, b"\n");
             Piece {
                 length: end,
@@ -67,7 +67,7 @@ impl Listed<'_> {
     // Line after line: a `while`, since a line has as many bytes as its texts.
     #[tactic(auto, using(listing_pieces::proofs::Pieces::filled_full, listing_pieces::proofs::Pieces::filled_end, listing_pieces::proofs::Pieces::fewer, listing_pieces::proofs::Pieces::Filling, listing_pieces::proofs::Pieces::begun, listing_pieces::proofs::Pieces::ended, listing_pieces::proofs::Pieces::more))]
     fn lines(&self, place: Place, buf: &mut [u8]) -> Piece
-        requires { (line_limit ≤ length buf.old) × (length self.now.capture.now ≤ capture_limit) }
+        requires { line_limit ≤ length buf.old }
         ensures answers { result ≡ text_as (filled (length buf.old) place (coming_from self.now.profile self.now.direction self.now.capture.now place)) }
         ensures leaves { buf.new ≡ placed buf.old 0 (filled (length buf.old) place (coming_from self.now.profile self.now.direction self.now.capture.now place)).text }
     {
@@ -84,7 +84,7 @@ impl Listed<'_> {
     // The piece with the next line put behind it: the heading, an event, or the totals.
     #[tactic(auto, unfolding(characters::specs::Letters::letters))]
     fn put_next(&self, piece: Piece, buf: &mut [u8]) -> Piece
-        requires { (piece.length + line_limit ≤ length buf.old) × (length self.now.capture.now ≤ capture_limit) }
+        requires { piece.length + line_limit ≤ length buf.old }
         ensures puts { Put line_limit buf.old piece.length (first_text (coming_from self.now.profile self.now.direction self.now.capture.now piece.next)) buf.new result.length }
         ensures next { result.next ≡ first_next piece.next (coming_from self.now.profile self.now.direction self.now.capture.now piece.next) }
     {
@@ -105,7 +105,7 @@ impl Listed<'_> {
     // The event that starts at a place, or the totals where there is none.
     #[tactic(auto, unfolding(listing_pieces::specs::Pieces::coming_events))]
     fn put_from(&self, from: usize, buf: &mut [u8], at: usize) -> Piece
-        requires { (at + line_limit ≤ length buf.old) × (length self.now.capture.now ≤ capture_limit) }
+        requires { at + line_limit ≤ length buf.old }
         ensures puts { Put line_limit buf.old at (first_text (coming_events self.now.profile self.now.direction self.now.capture.now (events_from self.now.direction self.now.capture.now from))) buf.new result.length }
         ensures next { result.next ≡ first_next (place.Event from) (coming_events self.now.profile self.now.direction self.now.capture.now (events_from self.now.direction self.now.capture.now from)) }
     {
@@ -123,7 +123,7 @@ impl Listed<'_> {
 
     #[tactic(auto, using(listing_pieces::proofs::Counts::counts, listing_pieces::proofs::Counts::totals_small, listing_pieces::proofs::Puts::wider, listing_pieces::proofs::Puts::said))]
     fn put_totals(&self, buf: &mut [u8], at: usize) -> usize
-        requires { (at + line_limit ≤ length buf.old) × (length self.now.capture.now ≤ capture_limit) }
+        requires { at + line_limit ≤ length buf.old }
         ensures { Put line_limit buf.old at (total_line (length self.now.capture.now) (totals_of self.now.direction self.now.capture.now)) buf.new result }
     {
         let totals = capture_totals(self.direction, self.capture).unwrap();

@@ -8,7 +8,8 @@ pub struct Said {
     pub content: Content,
 }
 
-// What a unit denied, as it came. Its data stay in the slice that was lent.
+// What a unit denied, as it came. Its data stay in the slice that was lent. A type of its own beside `Fields`:
+// MessagePromise.denied names it as what a unit denied.
 #[derive(Clone, Copy, Debug, PartialEq, Eq)]
 pub struct Denial {
     pub zone: u8,

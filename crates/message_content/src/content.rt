@@ -1,4 +1,5 @@
 ghost use Rattle.std.specs.Prelude.{◌≡◌};
+ghost use Rattle.std.specs.Fn.{FnOnceReturnsAt};
 ghost use Rattle.judging.specs.Judge.{is_word, value_refusal};
 ghost use Rattle.message.specs.Content.{word_of, is_leveller_off, value_content, byte_content, content_of, number_code, encoded_of, encoded_data, size_of, form_number, is_said, is_form};
 
@@ -98,12 +99,10 @@ pub fn size_of(content: Content) -> usize
 pub fn is_form(direction: Direction, row: Row, content: Content) -> bool
     ensures { result ≡ is_form direction row content }
 {
-    // tried: one slice for the three arms; the borrow checker does not cover what is borrowed on one path alone
-    match encode(row, content) {
-        Some(Encoded::One(byte)) => is_said(direction, row, &[byte], content),
-        Some(Encoded::Two(input, state)) => is_said(direction, row, &[input, state], content),
-        None => false,
-    }
+    with_data(
+        encode(row, content),
+        |body| is_said(direction, row, body, content),
+    )
 }
 
 // How a form that a row lacks in a direction is refused: as a missing step where its data are a step or request that
@@ -111,11 +110,21 @@ pub fn is_form(direction: Direction, row: Row, content: Content) -> bool
 pub fn form_refusal(direction: Direction, row: Row, content: Content) -> Refusal
     ensures { result ≡ value_refusal direction row (encoded_data (encoded_of row content)) }
 {
-    // tried: one slice for the three arms; the borrow checker does not cover what is borrowed on one path alone
-    match encode(row, content) {
-        Some(Encoded::One(byte)) => value_refusal(direction, row, &[byte]),
-        Some(Encoded::Two(input, state)) => value_refusal(direction, row, &[input, state]),
-        None => value_refusal(direction, row, &[]),
+    with_data(
+        encode(row, content),
+        |body| value_refusal(direction, row, body),
+    )
+}
+
+// What is answered of the data that are encoded. The bytes live in this function, so they are lent to a closure.
+fn with_data<R, F: FnOnce(&[u8]) -> R>(encoded: Option<Encoded>, then: F) -> R
+    requires callable { F.IsAlwaysCallable then }
+    ensures { FnOnceReturnsAt F.FnOnce then (encoded_data encoded) result }
+{
+    match encoded {
+        Some(Encoded::One(byte)) => then(&[byte]),
+        Some(Encoded::Two(first, second)) => then(&[first, second]),
+        None => then(&[]),
     }
 }
 
@@ -127,7 +136,7 @@ fn is_said(direction: Direction, row: Row, body: &[u8], content: Content) -> boo
         && form_number(content_of(direction, row, body)) == form_number(content)
 }
 
-// Which form it is: a number, since a form has its number in FORM of tests/README.md.
+// Which form it is, whatever its number or input: the definition form_number, which is_said compares by.
 fn form_number(content: Content) -> u8
     ensures { result ≡ form_number content }
 {

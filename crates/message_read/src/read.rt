@@ -5,6 +5,7 @@ ghost use Rattle.message.specs.Message.{read_of, frame_read, denied_in};
 
 use fields::fields::{Fields, frame_data, frame_fields};
 use frame::direction::Direction;
+use frame::reader::Reader;
 use judging_code::judge::judge;
 use message::read::{Denial, Message, Said};
 use message_content::content::content_of;
@@ -66,10 +67,11 @@ fn has_other_code(direction: Direction, answer: u8) -> bool
 fn read_denied(fields: Fields, body: &[u8]) -> Result<Message, Refusal>
     ensures { result ≡ denied_read fields.zone fields.command fields.answer body.now }
 {
+    // message_write tests it too: a range, which would be a public function more to share
     if !matches!(fields.answer, 0x82..=0x86) {
         return Err(Refusal::WrongAnswer);
     }
-    if body.len() > 255 {
+    if body.len() > usize::from(Reader::DATA_LIMIT) {
         return Err(Refusal::WrongLength);
     }
     Ok(Message::Denied(Denial {

@@ -68,6 +68,7 @@ fn write_denied(denial: Denial, body: &[u8], buf: &mut [u8], at: usize) -> Resul
         command,
         answer,
     } = denial;
+    // message_read tests it too: a range, which would be a public function more to share
     if !matches!(answer, 0x82..=0x86) {
         return Err(Refusal::WrongAnswer);
     }
@@ -128,7 +129,8 @@ fn write_encoded(
     ensures answers { result ≡ write_answered (raw_rules (encoded_data encoded)) buf.old at (frame_of direction fields.zone fields.command fields.answer (encoded_data encoded)) }
     ensures leaves { buf.new ≡ write_left (raw_rules (encoded_data encoded)) buf.old at (frame_of direction fields.zone fields.command fields.answer (encoded_data encoded)) }
 {
-    // tried: one slice for the three arms; the borrow checker does not cover what is borrowed on one path alone
+    // Three arms with the same call: the bytes of each live in its own arm only, so no one slice can stand for the
+    // three. message_content lends them to a closure for two callers; for one it would be no shorter.
     match encoded {
         Some(Encoded::One(first)) => write_raw(direction, fields, &[first], buf, at),
         Some(Encoded::Two(first, second)) => write_raw(

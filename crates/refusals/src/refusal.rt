@@ -23,7 +23,8 @@ pub enum Refusal {
     NoStep,
 }
 
-// A refusal, and the place of the line or record at fault, from 0; 0 too where a refusal has no place.
+// A refusal, and the place of the line or record at fault, from 0; 0 too where a refusal has no place, as document 01
+// has it: "zero for every other field".
 #[derive(Clone, Copy, Debug, PartialEq, Eq)]
 pub struct Fault {
     pub refusal: Refusal,
@@ -31,7 +32,7 @@ pub struct Fault {
 }
 
 impl Refusal {
-    // Its number in the documents.
+    // Its number in the documents: by a match, line for line as the definition number.
     pub fn number(self) -> u8
         ensures { result ≡ number self }
     {

@@ -11,9 +11,9 @@ pub fn number_of(code: u8) -> i16
     ensures { result ≡ number_of code }
 {
     if code < 0x80 {
-        code as i16
+        i16::from(code)
     } else {
-        0x80 - code as i16
+        0x80 - i16::from(code)
     }
 }
 
@@ -37,7 +37,8 @@ pub fn plain_code_of(number: i16) -> Option<u8>
     u8::try_from(number).ok()
 }
 
-// Whether a code is minus zero in a row: 80 where codes mean signed numbers, which is 0 as 00 is.
+// Whether a code is minus zero in a row: 80 where codes mean signed numbers, which is 0 as 00 is. No method of the
+// row: README and docs/ONE-ANSWER.md name it so.
 pub fn is_minus_zero(row: Row, code: u8) -> bool
     ensures { result ≡ is_minus_zero row code }
 {

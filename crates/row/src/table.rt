@@ -1,11 +1,13 @@
-// Codes from low to high; none where low is above high.
+// Codes from low to high; none where low is above high, as in any range, so that one test (the definition within)
+// reads all four of a row. No RangeInclusive, which is an iterator and is not Copy.
 #[derive(Clone, Copy, Debug, PartialEq, Eq)]
 pub struct Codes {
     pub low: u8,
     pub high: u8,
 }
 
-// A row of document 01's table: what a command may hold, and what an answer may.
+// A row of document 01's table: what a command may hold, and what an answer may. Its fields are the marks of that
+// table as specs/Table.antt has them: the profile by its letter, and a flag for each mark.
 #[derive(Clone, Copy, Debug, PartialEq, Eq)]
 pub struct Row {
     // its place in the table, from 0

@@ -8,7 +8,8 @@ use row::table::{Codes, ROW_COUNT, Row};
 
 // The numbers of each row: profile, code, zones; which of its answer codes a command sets (0 none, 1 those
 // of the first range, 2 of both); the answer codes, from and to, twice (1 to 0: none); request; F1 and
-// F2 (1 up and down, 2 on and off) or 02 (3 toggle); pair; signed; off; sheet. Document 01 names this form: a "constant table".
+// F2 (1 up and down, 2 on and off) or 02 (3 toggle); pair; signed; off; sheet. Document 01 names this form: a
+// "constant table".
 const ROWS: [[u8; 14]; ROW_COUNT] = [
     [b'A', 0x0F, 1, 0, 0x00, 0x01, 1, 0, 1, 0, 0, 0, 0, 0], // direct
     [b'A', 0x10, 1, 0, 0x00, 0x08, 1, 0, 1, 0, 0, 0, 0, 0], // decode 2ch
@@ -31,8 +32,8 @@ const ROWS: [[u8; 14]; ROW_COUNT] = [
     [b'S', 0x5C, 2, 1, 0x00, 0x63, 1, 0, 1, 0, 0, 0, 0, 1], // processor volume
 ];
 
-// For each command code, in lines of sixteen, the number of the row that profile A has for it: the row's place in `ROWS`
-// and one more; 0 for none. Document 02 names this form: "a table of 256 numbers per profile".
+// For each command code, in lines of sixteen, the number of the row that profile A has for it: the row's place in
+// `ROWS` and one more; 0 for none. Document 02 names this form: "a table of 256 numbers per profile".
 const KINDS_A: [[u8; 16]; 16] = [
     [0, 0, 0, 0, 0, 0, 0, 0, 0, 0, 0, 0, 0, 0, 0, 1], // 00 to 0F
     [2, 3, 0, 0, 0, 0, 0, 0, 0, 0, 0, 0, 0, 0, 0, 0], // 10 to 1F
@@ -77,19 +78,21 @@ const KINDS_S: [[u8; 16]; 16] = [
 pub fn find_row(profile: Profile, command: u8) -> Option<Row>
     ensures { result ≡ row_of profile command }
 {
-    let place = (kind_of(profile, command) as usize).checked_sub(1)?;
+    let place = usize::from(kind_of(profile, command)).checked_sub(1)?;
     Some(row_from(numbers_at(place), place))
 }
 
-// The number of the row that a profile has for a command; 0 for none, as document 01's tables of numbers have it.
+// The number of the row that a profile has for a command; 0 for none, as in document 02's "table of 256 numbers per
+// profile".
 fn kind_of(profile: Profile, command: u8) -> u8
     ensures { result ≡ kind_of profile command }
 {
     kind_in_tables(profile, KINDS_A, KINDS_S, command)
 }
 
-// The number at a command's code, in the profile's own of two tables. The lines are written out, and in `kind_in_line` the
-// places, so that each number is a constant: indexed, the look-up costs a frame nearly thirty instructions more (docs/BENCHMARK.md).
+// The number at a command's code, in the profile's own of two tables. The lines are written out, and in `kind_in_line`
+// the places, so that each number is a constant: indexed, the look-up costs a frame nearly thirty instructions more
+// (docs/BENCHMARK.md).
 #[tactic(auto, using(row::proofs::Named::line_at, lists::proofs::Past::past_all))]
 fn kind_in_tables(profile: Profile, a: [[u8; 16]; 16], s: [[u8; 16]; 16], command: u8) -> u8
     requires { HasKinds Profile.A a × HasKinds Profile.S s }
@@ -227,7 +230,7 @@ fn row_from(numbers: [u8; 14], place: usize) -> Row
     }
 }
 
-// A range of codes, or none.
+// A range of codes, or none: 1 to 0, which a Codes has for none.
 fn codes_if(has: bool, low: u8, high: u8) -> Codes
     ensures { result ≡ codes_if has low high }
 {

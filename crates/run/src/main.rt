@@ -6,6 +6,7 @@ mod files;
 
 use files::{LONG, count, letter, read_file, say_refused};
 use lent::part::bytes_at;
+use refusals::refusal::{Fault, Refusal};
 use sheetfile_code::by_letter::run_of_file;
 use sheetfile_code::write::RUN_ROOM;
 use std::io;
@@ -25,8 +26,16 @@ fn main(rt: HostRuntime) -> io::Result<()> {
         return err.write_all(b"run: the sheet file has more than 65,535 bytes\n");
     }
     let mut run = [0u8; RUN_ROOM];
-    match run_of_file(letter(&rt), file, &mut run, 0) {
-        Ok(count) => rt.stdout().write_all(bytes_at(&run, 0, count)),
+    match run_by(letter(&rt), file, &mut run) {
+        Ok(bytes) => rt.stdout().write_all(bytes),
         Err(fault) => say_refused(&mut err, fault),
     }
+}
+
+// The run, under the profile that the letter names; 12 where there is not one letter.
+fn run_by<'a>(letter: Option<u8>, file: &[u8], run: &'a mut [u8]) -> Result<&'a [u8], Fault> {
+    let letter = letter.ok_or(Refusal::WrongLetter)?;
+    let count = run_of_file(letter, file, run, 0)?;
+    // bytes_at and no slice: that what was written is within its room would need a proof here
+    Ok(bytes_at(run, 0, count))
 }

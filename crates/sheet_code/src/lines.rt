@@ -10,11 +10,7 @@ pub fn no_lines() -> Sheet
 {
     Sheet {
         count: 0,
-        lines: [Line {
-            zone: 0,
-            command: 0,
-            value: 0,
-        }; SHEET_LIMIT],
+        lines: [Line::default(); SHEET_LIMIT],
     }
 }
 

@@ -12,9 +12,7 @@ use Rattle.std.specs.Simd.{first_chunks}
 use Rattle.refusals.specs.Refusal.{fault}
 use Rattle.refusals.specs.declared.refusal.Refusal.TheVariants.{WrongFile}
 use Rattle.row.specs.declared.profile.Profile.{Profile}
-use Rattle.sheet.specs.Sheet.{with_line, with_all}
-use Rattle.sheet.specs.declared.sheet.Sheet.{Sheet}
-use Rattle.sheetfile.specs.File.{Record, record_size, records, line_of, lines_in, is_marked, lowest_wrong}
+use Rattle.sheetfile.specs.File.{Record, record_size, records, is_marked, lowest_wrong}
 use Rattle.sheetfile.specs.Computed.{record_in, records_in}
 
 -- the whole records of a file are its pieces of six bytes
@@ -44,33 +42,20 @@ long_in n (suc q) file = ap suc (long_in n q (drop n file))
 pub records_count : (q : ℕ) (file : List ℕ) → q * record_size ≤ length file → length file < (q + 1) * record_size → length (records file) ≡ q
 records_count q file low high = ap (λ (rs : List Record). length rs) (pieces q file low high) ∙ long_in record_size q file
 
--- one step of each of the two loops
-module _ (parts : List (List ℕ)) (i : ℕ) (d : List ℕ) (h : i < length parts) where
+-- one step of the loop
+module _ (parts : List (List ℕ)) (i : ℕ) (d : List ℕ) (h : i < length parts) (profile : Profile) where
   here : records_in (drop i parts) ≡ record_in (get_or parts i d) ∷ records_in (drop (i + 1) parts)
   here = rw (add-one i) (ap records_in (drop-cons parts i d h))
 
-  module _ (profile : Profile) where
-    pub marked_on : is_marked profile (record_in (get_or parts i d)) ≡ true
-        → lowest_wrong profile i (records_in (drop i parts)) ≡ lowest_wrong profile (i + 1) (records_in (drop (i + 1) parts))
-    unfolding lowest_wrong
-    marked_on e = ap (lowest_wrong profile i) here ∙ rw e
-
-    pub marked_not : is_marked profile (record_in (get_or parts i d)) ≡ false → lowest_wrong profile i (records_in (drop i parts)) ≡ Err (fault WrongFile i)
-    unfolding lowest_wrong
-    marked_not e = ap (lowest_wrong profile i) here ∙ rw e
-
-  pub lines_on : (s : Sheet) → with_all s (lines_in (records_in (drop i parts))) ≡ with_all (with_line s (line_of (record_in (get_or parts i d)))) (lines_in (records_in (drop (i + 1) parts)))
-  unfolding with_all lines_in
-  lines_on s = ap (λ (rs : List Record). with_all s (lines_in rs)) here
-
-module _ (parts : List (List ℕ)) (i : ℕ) (h : length parts ≤ i) where
-  behind : records_in (drop i parts) ≡ []
-  behind = ap records_in (drop_of_length-le parts {i = i} h)
-
-  pub marked_end : (profile : Profile) → lowest_wrong profile i (records_in (drop i parts)) ≡ Ok tt
+  pub marked_on : is_marked profile (record_in (get_or parts i d)) ≡ true
+      → lowest_wrong profile i (records_in (drop i parts)) ≡ lowest_wrong profile (i + 1) (records_in (drop (i + 1) parts))
   unfolding lowest_wrong
-  marked_end profile = ap (lowest_wrong profile i) behind
+  marked_on e = ap (lowest_wrong profile i) here ∙ rw e
 
-  pub lines_end : (s : Sheet) → with_all s (lines_in (records_in (drop i parts))) ≡ s
-  unfolding with_all lines_in
-  lines_end s = ap (λ (rs : List Record). with_all s (lines_in rs)) behind
+  pub marked_not : is_marked profile (record_in (get_or parts i d)) ≡ false → lowest_wrong profile i (records_in (drop i parts)) ≡ Err (fault WrongFile i)
+  unfolding lowest_wrong
+  marked_not e = ap (lowest_wrong profile i) here ∙ rw e
+
+pub marked_end : (parts : List (List ℕ)) (i : ℕ) → length parts ≤ i → (profile : Profile) → lowest_wrong profile i (records_in (drop i parts)) ≡ Ok tt
+unfolding lowest_wrong
+marked_end parts i h profile = ap (λ (pieces : List (List ℕ)). lowest_wrong profile i (records_in pieces)) (drop_of_length-le parts {i = i} h)

@@ -19,8 +19,8 @@ pub fn check_file(letter: u8, file: &[u8]) -> Result<(), Fault>
     Ok(())
 }
 
-// Writes an accepted sheet file into the rest of the buffer from a place: the file's refusals, then 9. What it shares with
-// `run_of_file` is `write_by`, over the form.
+// Writes an accepted sheet file into the rest of the buffer from a place: the file's refusals, then 9. What it shares
+// with `run_of_file` is `write_by`, over the form.
 pub fn copy_file(letter: u8, file: &[u8], buf: &mut [u8], at: usize) -> Result<usize, Fault>
     ensures answers { result ≡ copy_answered (profile_of letter) file.now buf.old at }
     ensures leaves { buf.new ≡ copy_left (profile_of letter) file.now buf.old at }

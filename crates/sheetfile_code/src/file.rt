@@ -59,28 +59,26 @@ fn lowest_wrong(profile: Profile, records: &[[u8; RECORD]]) -> Result<(), Fault>
 fn is_marked(profile: Profile, six: &[u8; RECORD]) -> bool
     ensures { result ≡ is_marked profile (record_in six.now) }
 {
-    six[0] == b'S' && six[1] == b'L' && six[2] == profile.letter()
+    six.starts_with(&[b'S', b'L', profile.letter()])
 }
 
 // The lines of some records.
-#[tactic(auto, using(sheetfile::proofs::Records::lines_on, sheetfile::proofs::Records::lines_end))]
 fn lines_in(records: &[[u8; RECORD]]) -> Sheet
     ensures { result ≡ with_all no_lines (lines_in (records_in records.now)) }
 {
-    let mut sheet = no_lines();
-    for six in records {
-        sheet = with_line(sheet, line_of(six));
-    }
-    sheet
+    records
+        .iter()
+        .fold(no_lines(), |sheet, six| with_line(sheet, line_of(six)))
 }
 
 // The line that the six bytes of a record hold.
 fn line_of(six: &[u8; RECORD]) -> Line
     ensures { result ≡ line_of (record_in six.now) }
 {
+    let &[_, _, _, zone, command, value] = six;
     Line {
-        zone: six[3],
-        command: six[4],
-        value: six[5],
+        zone,
+        command,
+        value,
     }
 }

@@ -25,8 +25,8 @@ pub const FLUSH: usize = 255;
 // Room for any run: the zeros, and a frame for each line up to the limit; a frame has as many bytes as a record.
 pub const RUN_ROOM: usize = FLUSH + SHEET_LIMIT * RECORD;
 
-// Writes a sheet's file into the rest of the buffer from a place: the sheet's checks, then 9. Beside `put_run`, since the
-// documents name a file and a run; what they share is `put_sheet`, over the form.
+// Writes a sheet's file into the rest of the buffer from a place: the sheet's checks, then 9. Beside `put_run`, since
+// the documents name a file and a run; what they share is `put_sheet`, over the form.
 pub fn put_file(buf: &mut [u8], at: usize, profile: Profile, sheet: Sheet) -> Result<usize, Fault>
     ensures answers { result ≡ file_answered profile (lines_of sheet) buf.old at }
     ensures leaves { buf.new ≡ file_left profile (lines_of sheet) buf.old at }
@@ -42,7 +42,8 @@ pub fn put_run(buf: &mut [u8], at: usize, profile: Profile, sheet: Sheet) -> Res
     put_sheet(Form::Run, profile, sheet, buf, at)
 }
 
-// The sheet's checks first.
+// The sheet's checks first. Form and profile go together from here on, one by one as `bytes_of` has them, which the
+// clauses cite.
 #[tactic(auto, using(sheet::proofs::Sheets::accepted_short, sheet::proofs::Faults::first_short))]
 pub(crate) fn put_sheet(
     form: Form,
@@ -99,7 +100,8 @@ fn put_bytes(form: Form, profile: Profile, lines: &[Line], part: &mut [u8])
     put_lines(form, profile, lines, rest);
 }
 
-// Each line in its own tail.
+// Each line in its own tail, by place: document 01 names that form ("the writer is lent the tail of the buffer"), and
+// the run hands each frame its own tail.
 #[tactic(auto, unfolding(lists::specs::InOrder::in_order))]
 fn put_lines(form: Form, profile: Profile, lines: &[Line], part: &mut [u8])
     requires { length part.old ≡ length lines.now * record_size }
@@ -144,5 +146,6 @@ fn put_command(line: Line, tail: &mut [u8])
         command: line.command,
         answer: 0,
     };
+    // it has room and one byte of data, so it can't refuse
     let _ = write_raw(Direction::Command, fields, &[line.value], tail, 0);
 }

@@ -1,5 +1,6 @@
-// The program's arguments, the files that they name, and how a refusal is said. `run` has the same file: a public function could promise
-// nothing of what is read, and none is public on safety alone (docs/DECISIONS.md).
+// The program's arguments, the files that they name, and how a refusal is said. `run` has the same file: a public
+// function could promise nothing of what is read, and none is public on safety alone (document 01; docs/DECISIONS.md,
+// How the crates are cut).
 ghost use Rattle.std.specs.Prelude.{◌≤◌, IfOk, length};
 
 use refusals::refusal::{Fault, Refusal};
@@ -20,17 +21,17 @@ pub(crate) fn count(rt: &impl Env, limit: usize) -> usize {
         .unwrap_or(limit)
 }
 
-// The first argument's letter; 0, which names no profile, where it is not one letter.
-pub(crate) fn letter(rt: &impl Env) -> u8 {
+// The first argument's letter, where it is one letter.
+pub(crate) fn letter(rt: &impl Env) -> Option<u8> {
     let mut letter = [0];
     match rt.arg(1, &mut letter) {
-        Ok(1) => letter[0],
-        _ => 0,
+        Ok(1) => Some(letter[0]),
+        _ => None,
     }
 }
 
-// The bytes of the file whose path is an argument, in a lent buffer: to the file's end, or as many as there is room for.
-// None where it can't be read, and then it says so in the program's name.
+// The bytes of the file whose path is an argument, in a lent buffer: to the file's end, or as many as there is room
+// for. None where it can't be read, and then it says so in the program's name.
 pub(crate) fn read_file<'a>(
     rt: &(impl Env + Files),
     err: Stderr,
@@ -62,8 +63,8 @@ fn open_read<R: Files>(rt: &R, path: &[u8]) -> Option<R::File> {
     fs::open(rt, str::from_utf8(path).ok()?).ok()
 }
 
-// Reads until the buffer is full or the file ends, and answers how many bytes were read. A `while`: a read gives as many
-// bytes as it likes, and without a heap there is no `read_to_end`.
+// Reads until the buffer is full or the file ends, and answers how many bytes were read. A `while`: a read gives as
+// many bytes as it likes, and without a heap there is no `read_to_end`. `listing` has it too, of its input.
 fn read_all(opened: &mut impl Read, file: &mut [u8]) -> io::Result<usize>
     ensures { IfOk result (λ count. count ≤ length file.new) }
 {
@@ -84,7 +85,7 @@ fn complain(err: Stderr, name: &[u8], words: &[u8], path: &[u8]) -> io::Result<(
     Ok(())
 }
 
-// 6, 7, 8 and 10 have a place; 11 and 12 have none.
+// 6, 7, 8 and 10 have a place, and 0 is one; 11 and 12 have none, and the 0 of their `Fault` is not said.
 pub(crate) fn say_refused(out: &mut impl Write, fault: Fault) -> io::Result<()> {
     match fault.refusal {
         Refusal::TooLong | Refusal::WrongLetter => writeln!(out, "{}", fault.refusal),

@@ -10,7 +10,7 @@ use frame::direction::Direction;
 use message::content::Content;
 use message::read::{Message, Said};
 use message_read::read::read_message;
-use refusals::refusal::Fault;
+use refusals::refusal::{Fault, Refusal};
 use row::profile::Profile;
 use sheet::line::Line;
 use signing::by_letter::HeldFile;
@@ -45,8 +45,9 @@ fn main(rt: HostRuntime) -> io::Result<()> {
     }
 }
 
-// Under the profile that the letter names.
-fn held_by(letter: u8, file: &[u8], capture: &[u8]) -> Result<HeldFile, Fault> {
+// Under the profile that the letter names; 12 where there is not one letter.
+fn held_by(letter: Option<u8>, file: &[u8], capture: &[u8]) -> Result<HeldFile, Fault> {
+    let letter = letter.ok_or(Refusal::WrongLetter)?;
     hold_file(Profile::try_from(letter)?, file, capture)
 }
 

@@ -5,8 +5,9 @@ use row::profile::Profile;
 #[derive(Clone, Copy, Debug, PartialEq, Eq)]
 pub struct Tracker {
     pub profile: Profile,
-    // A state and a byte for each cell; no `Option<u8>`, which has no room for a state that the host has spoilt, and any
-    // state but 1 is unknown (`KeptPromise.unknown`).
+    // A state and a byte for each cell; no `Option<u8>`, which has no room for a state that the host has spoilt, and
+    // any state but 1 is unknown (`KeptPromise.unknown`); two arrays, since `KeptPromise` and
+    // `fresh_tracker` name each.
     pub states: [u8; CELLS],
     pub values: [u8; CELLS],
 }

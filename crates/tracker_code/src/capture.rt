@@ -4,7 +4,7 @@ ghost use Rattle.tracker.specs.Capture.{brought_by, capture_fed};
 ghost use Rattle.tracker.specs.Computed.{told_of, told_at};
 
 use crate::feed::told_by;
-use crate::known::KNOWN;
+use crate::known::make_known;
 use fields::fields::{frame_data, frame_fields};
 use frame::capture::{Event, Kind};
 use frame::direction::Direction;
@@ -32,8 +32,9 @@ pub fn after_capture(tracker: Tracker, capture: &[u8]) -> CaptureFed
     }
 }
 
-// The events of a capture, one after another, each from the end of the last. The tracker stays in this function's own local, and each event answers with
-// a cell and its byte: a tracker that is passed on and given back is copied for every event.
+// The events of a capture, one after another. A `while`: the place goes on by whole events. The tracker stays in this
+// function's own local, and each event answers with a cell and its byte: a tracker that is passed on and given back is
+// copied for every event.
 #[tactic(auto, using(tracker::proofs::Captures::event_some, tracker::proofs::Captures::event_inside, tracker::proofs::Captures::feeds_end, tracker::proofs::Tells::inside_at))]
 fn feed_events(tracker: Tracker, capture: &[u8]) -> Tracker
     ensures { result ≡ answers_fed tracker (brought_by capture.now) }
@@ -44,8 +45,7 @@ fn feed_events(tracker: Tracker, capture: &[u8]) -> Tracker
     while let Some(event) = next_event(Direction::Answer, capture, at) {
         at += event.length;
         if let Some((cell, byte)) = told_at(profile, capture, event) {
-            next.states[cell] = KNOWN;
-            next.values[cell] = byte;
+            make_known(&mut next, cell, byte);
         }
     }
     next

@@ -9,5 +9,5 @@ pub(crate) fn cell_of(row: Row, zone: u8) -> usize
     requires { (row.place < row_count) × (1 ≤ zone) × (zone ≤ 3) }
     ensures { result ≡ cell_of row zone }
 {
-    row.place * 3 + zone as usize - 1
+    row.place * 3 + usize::from(zone) - 1
 }

@@ -5,7 +5,7 @@ ghost use Rattle.tracker.specs.Feed.{answer_fed};
 ghost use Rattle.tracker.specs.Computed.{told_in, told_by, with_told, Inside};
 
 use crate::cell::cell_of;
-use crate::known::KNOWN;
+use crate::known::make_known;
 use fields::fields::Fields;
 use frame::direction::Direction;
 use judging_code::judge::{is_answer, judge_row};
@@ -35,14 +35,13 @@ fn with_told(tracker: Tracker, told: Option<(usize, u8)>) -> Tracker
 {
     let mut next = tracker;
     if let Some((cell, byte)) = told {
-        next.states[cell] = KNOWN;
-        next.values[cell] = byte;
+        make_known(&mut next, cell, byte);
     }
     next
 }
 
-// What an answer makes known: a status its one cell; a denied or refused answer nothing. No message is read and its byte
-// written back, for a capture has thousands of answers: the byte is kept as it came, 80 as 00 where it is minus zero.
+// What an answer makes known: a status its one cell; a denied or refused answer nothing. No message is read and its
+// byte written back: a capture has thousands of answers. The byte is kept as it came, 80 as 00 where it is minus zero.
 pub(crate) fn told_by(profile: Profile, fields: Fields, body: &[u8]) -> Option<(usize, u8)>
     ensures { result ≡ told_by profile fields.zone fields.command fields.answer body.now }
 {

@@ -1,4 +1,6 @@
-ghost use Rattle.std.specs.Prelude.{◌≡◌};
+ghost use Rattle.std.specs.Prelude.{◌≡◌, ◌<◌, Some};
+ghost use Rattle.tracker.specs.Cell.{cell_count};
+ghost use Rattle.tracker.specs.Computed.{with_told};
 ghost use Rattle.tracker.specs.Tracker.{fresh_tracker, is_spoilt, kept_in};
 
 use crate::cell::cell_of;
@@ -21,6 +23,15 @@ pub fn new_tracker(profile: Profile) -> Tracker
         states: [0; CELLS],
         values: [0; CELLS],
     }
+}
+
+// Makes a cell known, in place: a tracker that is passed on and given back is copied.
+pub(crate) fn make_known(tracker: &mut Tracker, cell: usize, byte: u8)
+    requires { cell < cell_count }
+    ensures { tracker.new ≡ with_told tracker.old (Some (cell, byte)) }
+{
+    tracker.states[cell] = KNOWN;
+    tracker.values[cell] = byte;
 }
 
 // The byte that is known of a row and zone.

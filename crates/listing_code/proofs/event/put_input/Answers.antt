@@ -7,8 +7,8 @@ use Rattle.listing_code.proofs.event.put_input.Goals as goal
 
 pub returns-then-on : goal.returns-then-on
 unfolding letters decimal_in
-returns-then-on c = rw c.if-on.true (both (search rules) c.put_number-colon.ensures c.put_bytes.ensures)
+returns-then-on c = rw c.if-on.true (both (search rules) (rw c.from.ensures at c.put_number-colon.ensures) c.put_bytes.ensures)
 
-pub returns : goal.returns
+pub returns-else-on : goal.returns-else-on
 unfolding letters decimal_in
-returns c = rw c.if-on.false (both (search rules) c.put_number-colon.ensures c.put_bytes-2.ensures)
+returns-else-on c = rw c.if-on.false (both (search rules) (rw c.from.ensures at c.put_number-colon.ensures) c.put_bytes-else-on.ensures)

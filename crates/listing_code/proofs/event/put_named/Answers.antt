@@ -8,4 +8,4 @@ pub returns : goal.returns
 unfolding letters
 returns c =
     both (search rules) c.put_bytes-first.ensures
-    (both (search rules) c.put_number-second.ensures (both (search rules) c.put_bytes-third.ensures c.put_hex.ensures))
+    (both (search rules) (rw c.from.ensures at c.put_number-second.ensures) (both (search rules) c.put_bytes-third.ensures c.put_hex.ensures))

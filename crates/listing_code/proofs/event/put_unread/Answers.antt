@@ -7,4 +7,4 @@ use Rattle.listing_code.proofs.event.put_unread.Goals as goal
 
 pub returns : goal.returns
 unfolding letters text_line
-returns c = both (search rules) c.put_bytes-first.ensures (both (search rules) (rw c.number.ensures at c.put_number-second.ensures) c.put_bytes.ensures)
+returns c = both (search rules) c.put_bytes-first.ensures (both (search rules) (rw (c.from.ensures, c.number.ensures) at c.put_number-second.ensures) c.put_bytes.ensures)

@@ -12,4 +12,4 @@ unfolding letters text_line
 returns-in-Start-clause-leaves c =
     rw c.in-Start.is
     (one_line_lem 14 c.args.buf.now c.put_bytes-end.new.buf (refused_text c.args.refusal) c.put_bytes-end.result place.Start (search rules)
-    (both (search rules) (rw c.number.ensures at c.put_counted-first.ensures) c.put_bytes-end.ensures)).1
+    (both (search rules) (rw (c.from.ensures, c.number.ensures) at c.put_counted-first.ensures) c.put_bytes-end.ensures)).1

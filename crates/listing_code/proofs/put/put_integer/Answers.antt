@@ -22,11 +22,11 @@ pub behind-requires : goal.behind-requires
 behind-requires c =
     let g = c.args in
     let short : length (integer g.number) ≤ 6 = integer_short g.number c.ranges.number in
-    within g.buf.now (integer g.number) g.at c.write_integer.result (omega (arith, short)) (search rules) (rw (to_z-of_z c.ranges.number, to_z-of_z (wide c.ranges.number)) at c.write_integer.ensures.answers)
+    within g.buf.now (integer g.number) g.at c.write_integer.result (omega (arith, short)) (search rules) (rw (c.from.ensures, to_z-of_z c.ranges.number, to_z-of_z (wide c.ranges.number)) at c.write_integer.ensures.answers)
 
 pub returns : goal.returns
 returns c =
     let short : length (integer c.args.number) ≤ 6 = integer_short c.args.number c.ranges.number in
-    let put = rw (to_z-of_z c.ranges.number, to_z-of_z (wide c.ranges.number)) at c.write_integer.ensures.answers in
-    let left = rw (to_z-of_z c.ranges.number, to_z-of_z (wide c.ranges.number)) at c.write_integer.ensures.leaves in
+    let put = rw (c.from.ensures, to_z-of_z c.ranges.number, to_z-of_z (wide c.ranges.number)) at c.write_integer.ensures.answers in
+    let left = rw (c.from.ensures, to_z-of_z c.ranges.number, to_z-of_z (wide c.ranges.number)) at c.write_integer.ensures.leaves in
     wrote 6 c.behind.result (omega (arith, short)) short put left c.behind.ensures

@@ -9,9 +9,9 @@ pub behind-requires : goal.behind-requires
 behind-requires c =
     let g = c.args in
     let short : length (decimal g.number) ≤ 5 = decimal_most 4 g.number (search rules) in
-    within g.buf.now (decimal g.number) g.at c.write_decimal.result (omega (arith, short)) (search rules) c.write_decimal.ensures.answers
+    within g.buf.now (decimal g.number) g.at c.write_decimal.result (omega (arith, short)) (search rules) (rw c.from.ensures at c.write_decimal.ensures.answers)
 
 pub returns : goal.returns
 returns c =
     let short : length (decimal c.args.number) ≤ 5 = decimal_most 4 c.args.number (search rules) in
-    wrote 5 c.behind.result (omega (arith, short)) short c.write_decimal.ensures.answers c.write_decimal.ensures.leaves c.behind.ensures
+    wrote 5 c.behind.result (omega (arith, short)) short (rw c.from.ensures at c.write_decimal.ensures.answers) (rw c.from.ensures at c.write_decimal.ensures.leaves) c.behind.ensures
