@@ -106,7 +106,8 @@ fn put_said(said: Said, answered: bool, buf: &mut [u8], at: usize) -> usize
     requires { at + 27 ≤ length buf.old }
     ensures { Put 27 buf.old at (said_behind (answer_text answered) said) buf.new result }
 {
-    let next = put_named(b" frame ", said.zone, said.command, buf, at);
+    let word = put_bytes(buf, at, b" frame ");
+    let next = put_named(said.zone, said.command, buf, word);
     let value = put_answer(answered, buf, next);
     put_last(said.content, buf, value)
 }
@@ -129,21 +130,22 @@ fn put_denied(denial: Denial, buf: &mut [u8], at: usize) -> usize
     requires { at + 22 ≤ length buf.old }
     ensures { Put 22 buf.old at (behind (read_text (Some (Ok (message.Denied denial))))) buf.new result }
 {
-    let first = put_named(b" denied ", denial.zone, denial.command, buf, at);
+    let word = put_bytes(buf, at, b" denied ");
+    let first = put_named(denial.zone, denial.command, buf, word);
     let second = put_bytes(buf, first, b" ");
     let third = put_hex(buf, second, denial.answer);
     put_bytes(buf, third, b" -\n")
 }
 
-// The event's word, the zone and the command.
-fn put_named(word: &[u8], zone: u8, command: u8, buf: &mut [u8], at: usize) -> usize
-    requires { at + (length word.now + 8) ≤ length buf.old }
-    ensures { Put (length word.now + 8) buf.old at (word.now ++ (decimal zone ++ (letters " " ++ hex_byte command))) buf.new result }
+// The zone and the command. The word before them is put by the caller, as it stands there: passed on, it would be copied
+// by a call.
+fn put_named(zone: u8, command: u8, buf: &mut [u8], at: usize) -> usize
+    requires { at + 8 ≤ length buf.old }
+    ensures { Put 8 buf.old at (decimal zone ++ (letters " " ++ hex_byte command)) buf.new result }
 {
-    let first = put_bytes(buf, at, word);
-    let second = put_number(buf, first, u16::from(zone));
-    let third = put_bytes(buf, second, b" ");
-    put_hex(buf, third, command)
+    let zone = put_number(buf, at, u16::from(zone));
+    let space = put_bytes(buf, zone, b" ");
+    put_hex(buf, space, command)
 }
 
 // The value, and the line's end.

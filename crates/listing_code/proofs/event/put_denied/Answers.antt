@@ -1,5 +1,5 @@
 -- The named part, and the answer code behind it.
-use Rattle.std.proofs.Common.{◌++◌, rules}
+use Rattle.std.proofs.Common.{[], ◌++◌, rules}
 use Rattle.characters.specs.Letters.{letters}
 use Rattle.listing_text.specs.Listing.{text_line}
 use Rattle.characters.specs.Decimal.{decimal}
@@ -11,5 +11,6 @@ pub returns : goal.returns
 unfolding letters text_line
 returns c =
     let denial = c.args.denial in
-    both_behind (letters " denied ") (decimal denial.zone) (letters " " ++ hex_byte denial.command) (search rules) c.put_named-first.ensures
-    (both (search rules) c.put_bytes-second.ensures (both (search rules) c.put_hex-third.ensures c.put_bytes.ensures))
+    both (search rules) c.put_bytes-word.ensures
+    (both_behind [] (decimal denial.zone) (letters " " ++ hex_byte denial.command) (search rules) c.put_named-first.ensures
+    (both (search rules) c.put_bytes-second.ensures (both (search rules) c.put_hex-third.ensures c.put_bytes.ensures)))

@@ -6,6 +6,4 @@ use Rattle.listing_code.proofs.event.put_named.Goals as goal
 
 pub returns : goal.returns
 unfolding letters
-returns c =
-    both (search rules) c.put_bytes-first.ensures
-    (both (search rules) (rw c.from.ensures at c.put_number-second.ensures) (both (search rules) c.put_bytes-third.ensures c.put_hex.ensures))
+returns c = both (search rules) (rw c.from.ensures at c.put_number-zone.ensures) (both (search rules) c.put_bytes-space.ensures c.put_hex.ensures)

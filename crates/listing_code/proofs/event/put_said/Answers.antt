@@ -1,5 +1,5 @@
 -- The named part, the answer and the value.
-use Rattle.std.proofs.Common.{◌++◌, rules}
+use Rattle.std.proofs.Common.{[], ◌++◌, rules}
 use Rattle.characters.specs.Letters.{letters}
 use Rattle.characters.specs.Decimal.{decimal}
 use Rattle.characters.specs.Hex.{hex_byte}
@@ -11,5 +11,6 @@ unfolding letters
 returns c =
     let said = c.args.said in
     wider (search rules)
-    (both_behind (letters " frame ") (decimal said.zone) (letters " " ++ hex_byte said.command) (search rules) c.put_named-next.ensures
-    (both (search rules) c.put_answer-value.ensures c.put_last.ensures))
+    (both (search rules) c.put_bytes-word.ensures
+    (both_behind [] (decimal said.zone) (letters " " ++ hex_byte said.command) (search rules) c.put_named-next.ensures
+    (both (search rules) c.put_answer-value.ensures c.put_last.ensures)))
