@@ -1,6 +1,7 @@
 // Why something is refused, and which line or record of many is at fault.
-ghost use Rattle.std.specs.Prelude.{◌≡◌};
+ghost use Rattle.std.specs.Prelude.{◌≡◌, Some};
 ghost use Rattle.refusals.specs.Refusal.{number, fault};
+ghost use Rattle.refusals.specs.Printed.{refusal_printed, fault_printed};
 
 use std::error::Error;
 use std::fmt;
@@ -55,12 +56,16 @@ impl Refusal {
 }
 
 impl fmt::Display for Refusal {
+    ghost output = { λ refusal. Some (refusal_printed refusal) };
+
     fn fmt<W: fmt::Write>(&self, f: &mut fmt::Formatter<W>) -> fmt::Result {
         write!(f, "refused {}", self.number())
     }
 }
 
 impl fmt::Display for Fault {
+    ghost output = { λ it. Some (fault_printed it) };
+
     fn fmt<W: fmt::Write>(&self, f: &mut fmt::Formatter<W>) -> fmt::Result {
         write!(f, "{} at {}", self.refusal, self.place)
     }
