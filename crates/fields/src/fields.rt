@@ -35,7 +35,7 @@ pub fn frame_data(direction: Direction, bytes: &[u8]) -> &[u8]
     ensures { result.now ≡ data_of direction bytes.now }
 {
     if !is_frame(direction, bytes) {
-        return &[];
+        return &bytes[..0];
     }
     let header = usize::from(Reader::header(direction));
     let end = bytes.len() - 1;

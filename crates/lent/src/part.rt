@@ -10,7 +10,7 @@ pub fn bytes_at(bytes: &[u8], at: usize, length: usize) -> &[u8]
     bytes
         .get(at..)
         .and_then(|rest| rest.get(..length))
-        .unwrap_or(&[])
+        .unwrap_or(&bytes[..0])
 }
 
 // The last bytes of those that were kept, as many as asked for: of a live port, after the answer frame, the frame.
@@ -22,5 +22,5 @@ pub fn last_bytes(kept: &[u8], count: usize) -> &[u8]
     kept.len()
         .checked_sub(count)
         .and_then(|start| kept.get(start..))
-        .unwrap_or(&[])
+        .unwrap_or(&kept[..0])
 }

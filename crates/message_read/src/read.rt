@@ -49,7 +49,7 @@ pub fn denied_data(profile: Profile, direction: Direction, bytes: &[u8]) -> &[u8
 {
     match read_frame(profile, direction, bytes) {
         Some(Ok(Message::Denied(_))) => frame_data(direction, bytes),
-        _ => &[],
+        _ => &bytes[..0],
     }
 }
 
