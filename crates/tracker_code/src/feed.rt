@@ -22,9 +22,13 @@ pub fn after_answer(tracker: Tracker, fields: Fields, body: &[u8]) -> AnswerFed
     ensures { result ≡ answer_fed tracker fields.zone fields.command fields.answer body.now }
 {
     let profile = tracker.profile;
+    let reading = read_message(profile, Direction::Answer, fields, body);
+    let Ok(_) = reading else {
+        return AnswerFed { tracker, reading };
+    };
     AnswerFed {
         tracker: with_told(tracker, told_by(profile, fields, body)),
-        reading: read_message(profile, Direction::Answer, fields, body),
+        reading,
     }
 }
 
