@@ -30,12 +30,12 @@ fn main(rt: HostRuntime) -> io::Result<()> {
     read_lines(&mut out, rt.stdin(), &mut line)
 }
 
-// Reads until the input ends or a read fails; a last line may have no line feed.
-fn read_lines(out: &mut Output, mut from: Stdin, line: &mut [u8]) -> io::Result<()> {
+// Reads until the input ends; a last line may have no line feed.
+fn read_lines(out: &mut Output, from: Stdin, line: &mut [u8]) -> io::Result<()> {
     let mut input = [0u8; READ];
     let mut count = 0;
     for _ in 0..u64::MAX {
-        let got = match from.read(&mut input) {
+        let got = match read_full(from, &mut input) {
             Ok(0) => break,
             Ok(got) => got,
             Err(error) => {
@@ -48,6 +48,24 @@ fn read_lines(out: &mut Output, mut from: Stdin, line: &mut [u8]) -> io::Result<
         }
     }
     end_line(out, &mut line[..count])
+}
+
+// Reads until the buffer is full or the input ends, and answers how many bytes were read: so a caller may write that many
+// before it reads an answer, and input that ends at a terminal is asked for once more. A read that fails ends it too: its
+// error is answered where nothing was read before it.
+fn read_full(mut from: Stdin, buffer: &mut [u8]) -> io::Result<usize>
+    ensures { IfOk result (λ count. count ≤ length buffer.new) }
+{
+    let mut at = 0;
+    // a `while`: each read gives as many bytes as it likes, and a program with no heap has no `read_to_end`
+    while at < buffer.len() {
+        match from.read(&mut buffer[at..]) {
+            Ok(0) => return Ok(at),
+            Ok(got) => at += got,
+            Err(error) => return if at == 0 { Err(error) } else { Ok(at) },
+        }
+    }
+    Ok(at)
 }
 
 // The last line, where it has no line feed.
