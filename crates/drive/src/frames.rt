@@ -1,6 +1,6 @@
 // Readers, captures and the bytes of frames.
 use crate::arguments::Arguments;
-use crate::out::{Output, Stop, say_between, say_buffer, say_bytes};
+use crate::out::{Output, Stop, say_between, say_buffer, say_byte, say_byte_after, say_bytes};
 use fields::fields::{frame_data, frame_fields};
 use frame::capture::{Event, Kind};
 use frame::part::take_part;
@@ -82,8 +82,8 @@ fn say_event(out: &mut Output, event: Event) -> io::Result<()> {
 
 pub(crate) fn totals(out: &mut Output, arguments: &Arguments) -> Result<(), Stop> {
     let totals = capture_totals_by_letter(arguments.byte(1), arguments.bytes(2))?;
-    write!(out, "frame {} broken {} ", totals.frame, totals.broken)?;
-    write!(out, "noise {} pending {}", totals.noise, totals.pending)?;
+    write!(out, "frame {} broken {}", totals.frame, totals.broken)?;
+    write!(out, " noise {} pending {}", totals.noise, totals.pending)?;
     Ok(())
 }
 
@@ -94,8 +94,9 @@ pub(crate) fn fields(out: &mut Output, arguments: &Arguments) -> Result<(), Stop
     let Some(fields) = frame_fields(direction, bytes) else {
         return Ok(write!(out, "not one frame")?);
     };
-    write!(out, "{:02X} {:02X} ", fields.zone, fields.command)?;
-    write!(out, "{:02X}", fields.answer)?;
+    say_byte(out, fields.zone)?;
+    say_byte_after(out, fields.command)?;
+    say_byte_after(out, fields.answer)?;
     say_buffer(out, frame_data(direction, bytes))?;
     Ok(())
 }

@@ -1,6 +1,6 @@
 // Messages read, codes and rows; and how messages are said.
 use crate::arguments::Arguments;
-use crate::out::{Output, Stop, say_buffer};
+use crate::out::{Output, Stop, say_buffer, say_byte, say_byte_after, say_integer};
 use message::content::Content;
 use message::read::{Denial, Message, Said};
 use message_read::read::{denied_data, read_frame, read_message};
@@ -42,21 +42,24 @@ pub(crate) fn say_reading(
     body: &[u8],
 ) -> io::Result<()> {
     match reading {
-        Ok(Message::Command(said)) => say_said(out, "command", said),
-        Ok(Message::Status(said)) => say_said(out, "status", said),
+        Ok(Message::Command(said)) => say_said(out, "command ", said),
+        Ok(Message::Status(said)) => say_said(out, "status ", said),
         Ok(Message::Denied(denial)) => say_denied(out, denial, body),
         Err(refusal) => write!(out, "{refusal}"),
     }
 }
 
 fn say_said(out: &mut Output, word: &str, said: Said) -> io::Result<()> {
-    write!(out, "{word} {} {:02X} ", said.zone, said.command)?;
+    write!(out, "{word}{}", said.zone)?;
+    say_byte_after(out, said.command)?;
+    write!(out, " ")?;
     say_content(out, said.content)
 }
 
 fn say_denied(out: &mut Output, denial: Denial, body: &[u8]) -> io::Result<()> {
-    write!(out, "denied {} {:02X} ", denial.zone, denial.command)?;
-    write!(out, "{:02X}", denial.answer)?;
+    write!(out, "denied {}", denial.zone)?;
+    say_byte_after(out, denial.command)?;
+    say_byte_after(out, denial.answer)?;
     say_buffer(out, body)
 }
 
@@ -68,7 +71,10 @@ pub(crate) fn say_content(out: &mut Output, content: Content) -> io::Result<()> 
         Content::On => write!(out, "on"),
         Content::Off | Content::LevellerOff => write!(out, "off"),
         Content::Toggle => write!(out, "toggle"),
-        Content::Number(number) => write!(out, "number {number}"),
+        Content::Number(number) => {
+            write!(out, "number ")?;
+            say_integer(out, number)
+        }
         Content::Input(input, true) => write!(out, "input {input} on"),
         Content::Input(input, false) => write!(out, "input {input} off"),
     }
@@ -76,7 +82,7 @@ pub(crate) fn say_content(out: &mut Output, content: Content) -> io::Result<()> 
 
 // The number that a code means in a signed row.
 pub(crate) fn number(out: &mut Output, arguments: &Arguments) -> Result<(), Stop> {
-    write!(out, "{}", number_of(arguments.byte(1)))?;
+    say_integer(out, number_of(arguments.byte(1)))?;
     Ok(())
 }
 
@@ -92,7 +98,7 @@ pub(crate) fn plain(out: &mut Output, arguments: &Arguments) -> Result<(), Stop>
 
 fn say_code(out: &mut Output, code: Option<u8>) -> Result<(), Stop> {
     match code {
-        Some(code) => write!(out, "{code:02X}")?,
+        Some(code) => say_byte(out, code)?,
         None => write!(out, "none")?,
     }
     Ok(())

@@ -1,5 +1,10 @@
 // What is printed, on standard output.
+ghost use Rattle.std.specs.Prelude.{◌≡◌};
+ghost use Rattle.characters.specs.Hex.{hex_byte};
+
 use characters::hex::hex_digit;
+use decimal::decimal::write_integer;
+use lent::part::bytes_at;
 use refusals::refusal::{Fault, Refusal};
 use std::io;
 use std::io::{Stdout, Write};
@@ -52,6 +57,31 @@ pub(crate) fn say_between(out: &mut Output, place: usize) -> io::Result<()> {
     }
 }
 
+// A byte's two hex digits.
+fn hex_of(byte: u8) -> [u8; 2]
+    ensures { result ≡ hex_byte byte }
+{
+    [hex_digit(byte / 16), hex_digit(byte % 16)]
+}
+
+// A byte as hex digits. By one write: the library's `{:02X}` takes two for a byte below 10.
+pub(crate) fn say_byte(out: &mut Output, byte: u8) -> io::Result<()> {
+    out.write_all(&hex_of(byte))
+}
+
+// A space, and a byte as hex digits.
+pub(crate) fn say_byte_after(out: &mut Output, byte: u8) -> io::Result<()> {
+    let [first, second] = hex_of(byte);
+    out.write_all(&[b' ', first, second])
+}
+
+// A number that may be below zero: five digits at most, and a sign.
+pub(crate) fn say_integer(out: &mut Output, number: i16) -> io::Result<()> {
+    let mut digits = [0u8; 6];
+    let count = write_integer(&mut digits, 0, i32::from(number)).unwrap_or(0);
+    out.write_all(bytes_at(&digits, 0, count))
+}
+
 // Bytes behind all else that is said.
 pub(crate) fn say_buffer(out: &mut Output, bytes: &[u8]) -> io::Result<()> {
     out.write_all(b" : ")?;
@@ -69,7 +99,7 @@ pub(crate) fn say_bytes(out: &mut Output, bytes: &[u8]) -> io::Result<()> {
     let mut digits = [[0u8; 2]; GATHERED];
     for part in bytes.chunks(GATHERED) {
         for (byte, pair) in part.iter().zip(digits.iter_mut()) {
-            *pair = [hex_digit(byte / 16), hex_digit(byte % 16)];
+            *pair = hex_of(*byte);
         }
         // chunks gives no more than GATHERED bytes, but the proof of a loop does not know it
         let count = part.len().min(GATHERED);

@@ -1,6 +1,6 @@
 // Sheet files, sign-offs and cells; and how sheets' answers are said.
 use crate::arguments::Arguments;
-use crate::out::{Output, Stop};
+use crate::out::{Output, Stop, say_byte, say_byte_after};
 use sheet::sheet::Sheet;
 use sheetfile_code::by_letter::check_file;
 use sheetfile_code::file::read_file_by_letter;
@@ -24,8 +24,9 @@ fn say_sheet(out: &mut Output, sheet: Sheet) -> io::Result<()> {
         return write!(out, " -");
     }
     for line in sheet.lines.iter().take(sheet.count) {
-        write!(out, " {:02X}{:02X}", line.zone, line.command)?;
-        write!(out, "{:02X}", line.value)?;
+        say_byte_after(out, line.zone)?;
+        say_byte(out, line.command)?;
+        say_byte(out, line.value)?;
     }
     Ok(())
 }
@@ -59,7 +60,10 @@ pub(crate) fn cell(out: &mut Output, arguments: &Arguments) -> Result<(), Stop> 
 
 pub(crate) fn say_kept(out: &mut Output, kept: Kept) -> io::Result<()> {
     match kept {
-        Kept::Value(value) => write!(out, "value {value:02X}"),
+        Kept::Value(value) => {
+            write!(out, "value")?;
+            say_byte_after(out, value)
+        }
         Kept::Unknown => write!(out, "unknown"),
         Kept::NoCell => write!(out, "no cell"),
     }

@@ -1,7 +1,7 @@
 // Every message of a small space.
 use crate::arguments::Arguments;
 use crate::messages::{say_content, say_reading};
-use crate::out::{Output, Stop, say_bytes};
+use crate::out::{Output, Stop, say_byte, say_byte_after, say_bytes};
 use fields::fields::Fields;
 use frame::direction::Direction;
 use message::read::Message;
@@ -69,7 +69,9 @@ impl Counts {
 }
 
 fn say_accepted(out: &mut Output, fields: Fields, body: &[u8], message: Message) -> io::Result<()> {
-    write!(out, "{:02X} {:02X} ", fields.zone, fields.command)?;
+    say_byte(out, fields.zone)?;
+    say_byte_after(out, fields.command)?;
+    write!(out, " ")?;
     say_bytes(out, body)?;
     write!(out, " ")?;
     match message {
@@ -131,7 +133,8 @@ pub(crate) fn codes(out: &mut Output, arguments: &Arguments) -> Result<(), Stop>
         if answer > 0 {
             writeln!(out)?;
         }
-        write!(out, "{answer:02X} ")?;
+        say_byte(out, answer)?;
+        write!(out, " ")?;
         let reading = read_message(profile, Direction::Answer, fields, body);
         say_reading(out, reading, body)?;
     }

@@ -5,7 +5,7 @@ ghost use Rattle.std.specs.Prelude.{◌≤◌, IfOk, length};
 
 use refusals::refusal::{Fault, Refusal};
 use std::env::FillError;
-use std::io::{Read, Stderr, Write};
+use std::io::{Read, Stderr};
 use std::rt::{Env, Files};
 use std::{fs, io, str};
 
@@ -86,9 +86,9 @@ fn complain(err: Stderr, name: &[u8], words: &[u8], path: &[u8]) -> io::Result<(
 }
 
 // 6, 7, 8 and 10 have a place, and 0 is one; 11 and 12 have none, and the 0 of their `Fault` is not said.
-pub(crate) fn say_refused(out: &mut impl Write, fault: Fault) -> io::Result<()> {
+pub(crate) fn say_refused(out: &impl Print, fault: Fault) -> io::Result<()> {
     match fault.refusal {
-        Refusal::TooLong | Refusal::WrongLetter => writeln!(out, "{}", fault.refusal),
-        _ => writeln!(out, "{fault}"),
+        Refusal::TooLong | Refusal::WrongLetter => out.println(fault.refusal),
+        _ => out.println(fault),
     }
 }

@@ -12,7 +12,7 @@ use sheetfile_code::write::RUN_ROOM;
 use std::io;
 
 fn main(rt: HostRuntime) -> io::Result<()> {
-    let mut err = rt.stderr();
+    let err = rt.stderr();
     if count(&rt, 4) != 3 {
         return err.write_all(
             b"usage: run PROFILE SHEET (the letter A or S, and the path of a sheet file)\n",
@@ -28,7 +28,7 @@ fn main(rt: HostRuntime) -> io::Result<()> {
     let mut run = [0u8; RUN_ROOM];
     match run_by(letter(&rt), file, &mut run) {
         Ok(bytes) => rt.stdout().write_all(bytes),
-        Err(fault) => say_refused(&mut err, fault),
+        Err(fault) => say_refused(&err, fault),
     }
 }
 

@@ -2,11 +2,17 @@
 //   signoff PROFILE SHEET CAPTURE
 #![tactic(auto)]
 
+ghost use Rattle.std.specs.Prelude.{◌≡◌};
+ghost use Rattle.characters.specs.Hex.{hex_byte};
+
 mod files;
 
+use characters::hex::hex_digit;
+use decimal::decimal::write_integer;
 use fields::fields::Fields;
 use files::{LONG, count, letter, read_file, say_refused};
 use frame::direction::Direction;
+use lent::part::bytes_at;
 use message::content::Content;
 use message::read::{Message, Said};
 use message_read::read::read_message;
@@ -16,7 +22,7 @@ use sheet::line::Line;
 use signing::by_letter::HeldFile;
 use signing_code::by_letter::hold_file;
 use std::io;
-use std::io::{Stdout, Write};
+use std::io::Stdout;
 use tracker::tracker::{Kept, Tracker};
 use tracker_code::known::kept_in;
 
@@ -38,10 +44,10 @@ fn main(rt: HostRuntime) -> io::Result<()> {
     let Some(capture) = read_file(&rt, err, b"signoff", 3, &mut more)? else {
         return Ok(());
     };
-    let mut out = rt.stdout();
+    let out = rt.stdout();
     match held_by(letter(&rt), file, capture) {
-        Ok(held) => say_held(&mut out, held),
-        Err(fault) => say_refused(&mut out, fault),
+        Ok(held) => say_held(out, held),
+        Err(fault) => say_refused(&out, fault),
     }
 }
 
@@ -52,7 +58,7 @@ fn held_by(letter: Option<u8>, file: &[u8], capture: &[u8]) -> Result<HeldFile, 
 }
 
 // The sign-off; where it is no, the lines that do not hold.
-fn say_held(out: &mut Stdout, held: HeldFile) -> io::Result<()> {
+fn say_held(out: Stdout, held: HeldFile) -> io::Result<()> {
     if held.agrees {
         return out.write_all(b"signed\n");
     }
@@ -63,7 +69,7 @@ fn say_held(out: &mut Stdout, held: HeldFile) -> io::Result<()> {
     Ok(())
 }
 
-fn say_line(out: &mut Stdout, tracker: Tracker, line: Line) -> io::Result<()> {
+fn say_line(out: Stdout, tracker: Tracker, line: Line) -> io::Result<()> {
     let profile = tracker.profile;
     match kept_in(tracker, line.zone, line.command) {
         Kept::Value(value) if value != line.value => {
@@ -80,18 +86,21 @@ fn say_line(out: &mut Stdout, tracker: Tracker, line: Line) -> io::Result<()> {
 }
 
 // Zone, code and wanted value.
-fn say_wanted(out: &mut Stdout, profile: Profile, line: Line) -> io::Result<()> {
-    write!(out, "{} {:02X}", line.zone, line.command)?;
+fn say_wanted(out: Stdout, profile: Profile, line: Line) -> io::Result<()> {
+    out.print(line.zone)?;
+    out.write_all(b" ")?;
+    say_hex(out, line.command)?;
     say_value(out, profile, line)
 }
 
 // A line's value as the listing prints it: a status of a sheet row is a number, or Leveller's off.
-fn say_value(out: &mut Stdout, profile: Profile, line: Line) -> io::Result<()> {
+fn say_value(out: Stdout, profile: Profile, line: Line) -> io::Result<()> {
     let fields = Fields {
         zone: line.zone,
         command: line.command,
         answer: 0,
     };
+    out.write_all(b" ")?;
     match read_message(profile, Direction::Answer, fields, &[line.value]) {
         Ok(
             Message::Status(
@@ -100,7 +109,7 @@ fn say_value(out: &mut Stdout, profile: Profile, line: Line) -> io::Result<()> {
                     ..
                 },
             ),
-        ) => write!(out, " {number}"),
+        ) => say_integer(out, number),
         Ok(
             Message::Status(
                 Said {
@@ -108,7 +117,25 @@ fn say_value(out: &mut Stdout, profile: Profile, line: Line) -> io::Result<()> {
                     ..
                 },
             ),
-        ) => write!(out, " off"),
-        _ => write!(out, " {:02X}", line.value),
+        ) => out.write_all(b"off"),
+        _ => say_hex(out, line.value),
     }
+}
+
+// A number that may be below zero: five digits at most, and a sign.
+fn say_integer(out: Stdout, number: i16) -> io::Result<()> {
+    let mut digits = [0u8; 6];
+    let count = write_integer(&mut digits, 0, i32::from(number)).unwrap_or(0);
+    out.write_all(bytes_at(&digits, 0, count))
+}
+
+fn say_hex(out: Stdout, byte: u8) -> io::Result<()> {
+    out.write_all(&hex_of(byte))
+}
+
+// A byte's two hex digits.
+fn hex_of(byte: u8) -> [u8; 2]
+    ensures { result ≡ hex_byte byte }
+{
+    [hex_digit(byte / 16), hex_digit(byte % 16)]
 }
