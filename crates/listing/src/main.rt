@@ -21,8 +21,8 @@ fn main(rt: HostRuntime) -> io::Result<()> {
     list(rt.stdout(), &buffer[..count])
 }
 
-// Reads until the buffer is full or the input ends, and answers how many bytes were read. `run` and `signoff` have it
-// too, of files: a public function could promise nothing of what is read.
+// Reads until the buffer is full or the input ends, and answers how many bytes were read. `drive` has it too, and `run`
+// and `signoff`, of files: a public function could promise nothing of what is read.
 fn read_full(mut from: Stdin, buffer: &mut [u8]) -> io::Result<usize>
     ensures { IfOk result (λ count. count ≤ length buffer.new) }
 {

@@ -25,7 +25,9 @@ pub fn read_frame(
     Some(read_message(profile, direction, fields, frame_data(direction, bytes)))
 }
 
-// Reads a message from what a frame brings. The answer code of a command is not looked at.
+// Reads a message from what a frame brings. The answer code of a command is not looked at. To be put into its callers:
+// one that gives profile, direction, zone and command as they stand has most of it worked out by the compiler.
+#[inline]
 #[tactic(auto, using(message::proofs::Readings::read_other, message::proofs::Readings::read_refused, message::proofs::Readings::read_says))]
 pub fn read_message(
     profile: Profile,

@@ -23,12 +23,12 @@ pub fn after_answer(tracker: Tracker, fields: Fields, body: &[u8]) -> AnswerFed
 {
     let profile = tracker.profile;
     let reading = read_message(profile, Direction::Answer, fields, body);
-    let Ok(_) = reading else {
+    let Ok(message) = reading else {
         return AnswerFed { tracker, reading };
     };
     AnswerFed {
         tracker: with_told(tracker, told_by(profile, fields, body)),
-        reading,
+        reading: Ok(message),
     }
 }
 
