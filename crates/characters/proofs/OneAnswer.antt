@@ -24,6 +24,9 @@ hex_value_one byte = one (hex_value byte)
 pub hex_digit_one : (value : ℕ) → OneAnswer (λ x. x ≡ hex_digit (value % 16))
 hex_digit_one value = one (hex_digit (value % 16))
 
+pub hex_byte_one : (byte : ℕ) → OneAnswer (λ x. x ≡ hex_byte byte)
+hex_byte_one byte = one (hex_byte byte)
+
 pub write_hex_one : (buf : List ℕ) (at byte : ℕ)
     → OneAnswer (λ (x : Result ℕ Refusal × List ℕ). (x.0 ≡ write_answered [] buf at (hex_byte byte)) × (x.1 ≡ write_left [] buf at (hex_byte byte)))
 write_hex_one buf at byte = one_lent (write_answered [] buf at (hex_byte byte)) (write_left [] buf at (hex_byte byte))

@@ -42,6 +42,13 @@ pub fn hex_digit(value: u8) -> u8
     }
 }
 
+// A byte's two hex digits.
+pub fn hex_byte(byte: u8) -> [u8; 2]
+    ensures { result ≡ hex_byte byte }
+{
+    [hex_digit(byte / 16), hex_digit(byte % 16)]
+}
+
 // Writes a byte as two hex digits; 9 where there is no room for them, and then the buffer is as it was. By its own test
 // of room and no call of write_bytes: the must-fail edit nine_late asks that test for one byte too few.
 #[tactic(auto, using(lent::proofs::Room::room_within, crate::proofs::Rooms::refused, crate::proofs::Rooms::written))]

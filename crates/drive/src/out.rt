@@ -1,8 +1,5 @@
 // What is printed, on standard output.
-ghost use Rattle.std.specs.Prelude.{◌≡◌};
-ghost use Rattle.characters.specs.Hex.{hex_byte};
-
-use characters::hex::hex_digit;
+use characters::hex::hex_byte;
 use decimal::decimal::write_integer;
 use lent::part::bytes_at;
 use refusals::refusal::{Fault, Refusal};
@@ -57,21 +54,14 @@ pub(crate) fn say_between(out: &mut Output, place: usize) -> io::Result<()> {
     }
 }
 
-// A byte's two hex digits.
-fn hex_of(byte: u8) -> [u8; 2]
-    ensures { result ≡ hex_byte byte }
-{
-    [hex_digit(byte / 16), hex_digit(byte % 16)]
-}
-
 // A byte as hex digits. By one write: the library's `{:02X}` takes two for a byte below 10.
 pub(crate) fn say_byte(out: &mut Output, byte: u8) -> io::Result<()> {
-    out.write_all(&hex_of(byte))
+    out.write_all(&hex_byte(byte))
 }
 
 // A space, and a byte as hex digits.
 pub(crate) fn say_byte_after(out: &mut Output, byte: u8) -> io::Result<()> {
-    let [first, second] = hex_of(byte);
+    let [first, second] = hex_byte(byte);
     out.write_all(&[b' ', first, second])
 }
 
@@ -99,7 +89,7 @@ pub(crate) fn say_bytes(out: &mut Output, bytes: &[u8]) -> io::Result<()> {
     let mut digits = [[0u8; 2]; GATHERED];
     for part in bytes.chunks(GATHERED) {
         for (byte, pair) in part.iter().zip(digits.iter_mut()) {
-            *pair = hex_of(*byte);
+            *pair = hex_byte(*byte);
         }
         // chunks gives no more than GATHERED bytes, but the proof of a loop does not know it
         let count = part.len().min(GATHERED);

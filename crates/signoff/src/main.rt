@@ -2,12 +2,9 @@
 //   signoff PROFILE SHEET CAPTURE
 #![tactic(auto)]
 
-ghost use Rattle.std.specs.Prelude.{◌≡◌};
-ghost use Rattle.characters.specs.Hex.{hex_byte};
-
 mod files;
 
-use characters::hex::hex_digit;
+use characters::hex::hex_byte;
 use decimal::decimal::write_integer;
 use fields::fields::Fields;
 use files::{LONG, count, letter, read_file, say_refused};
@@ -130,12 +127,5 @@ fn say_integer(out: Stdout, number: i16) -> io::Result<()> {
 }
 
 fn say_hex(out: Stdout, byte: u8) -> io::Result<()> {
-    out.write_all(&hex_of(byte))
-}
-
-// A byte's two hex digits.
-fn hex_of(byte: u8) -> [u8; 2]
-    ensures { result ≡ hex_byte byte }
-{
-    [hex_digit(byte / 16), hex_digit(byte % 16)]
+    out.write_all(&hex_byte(byte))
 }
